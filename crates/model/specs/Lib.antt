@@ -1,0 +1,7 @@
+pub mod Tree
+pub mod Calls
+pub mod Refusals
+pub mod Fs
+pub mod World
+pub mod Promise
+pub mod Laws

@@ -1,0 +1,1 @@
+// The model: definitions alone, in specs/. Nothing here runs.
