@@ -16,7 +16,7 @@ use Rattle.model.specs.Refusals.{Limits, refusal-by}
 use Rattle.model.specs.Fs.{reply, Cell, Fs, is-in, held, turned, answer, after}
 use Rattle.model.specs.World.{Disk, seen}
 use Rattle.model.specs.Promise.{Right, Comes-to-an-end, Stays-small}
-use Rattle.machine.specs.State.{Sized, counts-of, State, ren, Kind, nothing, push-it, write-it, keep-it, sync-it, kind, ones}
+use Rattle.machine.specs.State.{Sized, counts-of, State, ren, Kind, nothing, push-it, write-it, keep-it, sync-it, kind, count-set}
 use Rattle.machine.specs.Program.{Encoding, by-checkpoint, by-journal, rested, reply-by, acts-by, next-by, refusal-of, state-says}
 use Rattle.machine.specs.Program.{state-does, state-next, program}
 use Rattle.machine.proofs.Invariant.{at, held-cells, Laws, Idle, Busy, Calls-go}
@@ -32,8 +32,8 @@ use Rattle.machine.proofs.Writes.{tree-held, stays, writes, keeps}
 use Rattle.machine.proofs.Sync.{syncs, notes}
 use Rattle.machine.proofs.Push.{pushes}
 
-ones-short : (bs : List Bool) → ones bs ≤ length bs
-unfolding ones
+ones-short : (bs : List Bool) → count-set bs ≤ length bs
+unfolding count-set
 ones-short [] = zero-le
 ones-short (true ∷ bs) = let q = ones-short bs in omega arith
 ones-short (false ∷ bs) = let q = ones-short bs in omega arith
@@ -44,8 +44,8 @@ count-zero (t ∷ ts) e = let z : ⊥ = omega arith in absurd z
 
 module _ (k : Encoding) (Fits : Limits → Tree → Type 0) (laws : Laws k Fits) (l : Limits) (gl : Sized l)
     (s : Fs) (d : Disk) (st : State) (m : List ℕ) (i : Idle k Fits l s d st m) where
-  held-is : ones (st .held) ≡ held s
-  held-is = ap ones (i .held-bits) ∙ held-count (l .room) m (held-cells s) (i .all-placed)
+  held-is : count-set (st .held) ≡ held s
+  held-is = ap count-set (i .held-bits) ∙ held-count (l .room) m (held-cells s) (i .all-placed)
 
   held-short : held s ≤ l .room
   held-short =

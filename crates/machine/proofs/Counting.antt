@@ -10,7 +10,7 @@ use lib.Dec.{eqb}
 use lib.ListN.{length, set, replicate}
 use Rattle.std.proofs.shelf.Tests.{eqb-true, eq-eqb, ne-eqb, or-cases, or-left, or-right, both-ways, cases-bool, cases-eq}
 use Rattle.model.specs.Fs.{is-in, each-once}
-use Rattle.machine.specs.State.{marks, ones, free, marked}
+use Rattle.machine.specs.State.{marks, count-set, free, marked}
 use Rattle.machine.proofs.Invariant.{at, Placed}
 use Rattle.machine.proofs.Lists.{in-append, in-map, of-map, same-in}
 
@@ -25,13 +25,13 @@ unfolding marks is-in
 marks-past zero k b bs h = refl
 marks-past (suc n) k b bs h = rw (ne-eqb k b (λ e. omega arith), marks-past n (suc k) b bs (omega arith))
 
-ones-none : (n k : ℕ) → ones (marks n k []) ≡ 0
-unfolding marks ones is-in
+ones-none : (n k : ℕ) → count-set (marks n k []) ≡ 0
+unfolding marks count-set is-in
 ones-none zero k = refl
 ones-none (suc n) k = rw (ones-none n (suc k))
 
-ones-more : (n k b : ℕ) (bs : List ℕ) → is-in b bs ≡ false → k ≤ b → b < k + n → ones (marks n k (b ∷ bs)) ≡ suc (ones (marks n k bs))
-unfolding marks ones is-in
+ones-more : (n k b : ℕ) (bs : List ℕ) → is-in b bs ≡ false → k ≤ b → b < k + n → count-set (marks n k (b ∷ bs)) ≡ suc (count-set (marks n k bs))
+unfolding marks count-set is-in
 ones-more zero k b bs h p q = let z : ⊥ = omega arith in absurd z
 ones-more (suc n) k b bs h p q = ⊎-elim
     (λ e. let i : is-in k bs ≡ false = ap (λ (x : ℕ). is-in x bs) e ∙ h in
@@ -39,13 +39,13 @@ ones-more (suc n) k b bs h p q = ⊎-elim
     (λ e. rw (ne-eqb k b e, ones-more n (suc k) b bs h (omega arith) (omega arith)) (omega arith))
     (cases-eq k b)
 
-pub ones-each : (n : ℕ) (bs : List ℕ) → ((b : ℕ) → is-in b bs ≡ true → b < n) → ones (marks n 0 bs) ≡ each-once bs
+pub ones-each : (n : ℕ) (bs : List ℕ) → ((b : ℕ) → is-in b bs ≡ true → b < n) → count-set (marks n 0 bs) ≡ each-once bs
 unfolding each-once is-in
 ones-each n [] h = ones-none n 0
 ones-each n (b ∷ bs) h =
-    let ih : ones (marks n 0 bs) ≡ each-once bs = ones-each n bs (λ c p. h c (or-right (eqb c b) (is-in c bs) p)) in
+    let ih : count-set (marks n 0 bs) ≡ each-once bs = ones-each n bs (λ c p. h c (or-right (eqb c b) (is-in c bs) p)) in
     ⊎-elim
-    (λ p. rw p (ap ones (marks-same n 0 (b ∷ bs) bs
+    (λ p. rw p (ap count-set (marks-same n 0 (b ∷ bs) bs
     (λ c. same-in c (b ∷ bs) bs (λ q. ⊎-elim (λ e. ap (λ (x : ℕ). is-in x bs) (eqb-true c b e)
     ∙ p) (λ e. e) (or-cases (eqb c b) (is-in c bs) q)) (λ q. or-right (eqb c b) (is-in c bs) q)))
     ∙ (ih ∙ sym (zero-add (each-once bs)))))
@@ -69,7 +69,7 @@ each-map f (c ∷ cs) h =
     rw (q, each-map f cs (λ a e p r. h a e (or-right (eqb a c) (is-in a cs) p) (or-right (eqb e c) (is-in e cs) r)))
 
 -- HOW MANY ARE HELD: as many as there are marks
-pub held-count : (room : ℕ) (m hs : List ℕ) → Placed room m hs → ones (marks room 0 (map (at m) hs)) ≡ each-once hs
+pub held-count : (room : ℕ) (m hs : List ℕ) → Placed room m hs → count-set (marks room 0 (map (at m) hs)) ≡ each-once hs
 held-count room m hs p =
     ones-each room (map (at m) hs) (λ b h. let o = of-map (at m) b hs h in subst (λ (x : ℕ). x < room) (o .2) (p .below (o .0) (o .1)))
     ∙ each-map (at m) hs (p .apart)
@@ -95,8 +95,8 @@ marked-marks r (x ∷ xs) hs =
     ∙ (or-swap (is-in c xs) (eqb c x) (is-in c hs) ∙ ap (λ (b : Bool). eqb c x || b) (sym (in-append c xs hs)))))
 
 -- free blocks
-pub free-length : (n : ℕ) (bs : List Bool) (k : ℕ) → n + ones bs ≤ length bs → length (free n bs k) ≡ n
-unfolding free ones
+pub free-length : (n : ℕ) (bs : List Bool) (k : ℕ) → n + count-set bs ≤ length bs → length (free n bs k) ≡ n
+unfolding free count-set
 free-length zero bs k h = refl
 free-length (suc n) [] k h = let z : ⊥ = omega arith in absurd z
 free-length (suc n) (true ∷ bs) k h = free-length (suc n) bs (suc k) (omega arith)

@@ -19,7 +19,7 @@ use Rattle.model.specs.Refusals.{Limits, may-change, a-dir, making, refusal, re
 use Rattle.model.specs.Fs.{is-in, each-once}
 use Rattle.model.specs.Laws.{cell-twice}
 use Rattle.machine.specs.State.{Sized, entry-count, Kind, nothing, push-it, write-it, keep-it, sync-it, kind, more, next-tree, marks}
-use Rattle.machine.specs.State.{ones}
+use Rattle.machine.specs.State.{count-set}
 use Rattle.machine.specs.Fits.{every, ok-entry, ok-node, rising, Fits}
 use Rattle.machine.proofs.Invariant.{at}
 use Rattle.machine.proofs.Lists.{in-append, in-left, in-right, in-either, in-take, in-at}
@@ -45,8 +45,8 @@ unfolding cell-twice each-once
 once-all [] h = refl
 once-all (x ∷ xs) h = let p = or-parts (is-in x xs) (cell-twice xs) h in rw (p .0) (let q = once-all xs (p .1) in omega arith)
 
-ones-short : (bs : List Bool) → ones bs ≤ length bs
-unfolding ones
+ones-short : (bs : List Bool) → count-set bs ≤ length bs
+unfolding count-set
 ones-short [] = zero-le
 ones-short (true ∷ bs) = let q = ones-short bs in omega arith
 ones-short (false ∷ bs) = let q = ones-short bs in omega arith
@@ -59,7 +59,7 @@ length-marks (suc n) i bs = ap suc (length-marks n (suc i) bs)
 pub cells-few : (l : Limits) (t : Tree) → Fits l t → length (all-cells (t .nodes)) ≤ l .room
 cells-few l t f =
     let xs : List ℕ = all-cells (t .nodes) in
-    let p : ones (marks (l .room) 0 xs) ≡ length xs = ones-each (l .room) xs (f .inside) ∙ once-all xs (f .apart) in
+    let p : count-set (marks (l .room) 0 xs) ≡ length xs = ones-each (l .room) xs (f .inside) ∙ once-all xs (f .apart) in
     let q = ones-short (marks (l .room) 0 xs) in
     let r = length-marks (l .room) 0 xs in
     omega arith

@@ -19,7 +19,7 @@ use Rattle.model.specs.Fs.{Cell, Fs, empty-cell, is-in, cells-of, numbers, held
 use Rattle.model.specs.World.{Disk, did-all}
 use Rattle.model.specs.Promise.{good-acts}
 use Rattle.machine.specs.State.{Sized, Item, State, Core, step, is-push, redo, synced-core, ready, replay, push-it, kind, ren, ren-body}
-use Rattle.machine.specs.State.{ren-nodes, marks, ones, free, marked, more, next-tree}
+use Rattle.machine.specs.State.{ren-nodes, marks, count-set, free, marked, more, next-tree}
 use Rattle.machine.specs.Program.{longer, has-place, Encoding, refusal-of}
 use Rattle.machine.specs.Fits.{ok-call, ok-journal}
 use Rattle.machine.proofs.Invariant.{at, last, last-cells, held-cells, Placed, Stored, Laws, Safe, Idle, Busy}
@@ -39,7 +39,7 @@ unfolding replay
 replay-more l x [] i = refl
 replay-more l x (j ∷ is) i = replay-more l (redo l (ready l (j .first) x) (j .call)) is i
 
-redo-goes : (l : Limits) (x : Core) (c : Call) → refusal l (x .tree) (x .older) (ones (x .held)) c ≡ 0 → kind (x .tree) c ≡ push-it →
+redo-goes : (l : Limits) (x : Core) (c : Call) → refusal l (x .tree) (x .older) (count-set (x .held)) c ≡ 0 → kind (x .tree) c ≡ push-it →
     redo l x c ≡ step x c
 unfolding is-push
 redo-goes l x c e k = rw (e, k)
@@ -269,7 +269,7 @@ module _ (k : Encoding) (Fits : Limits → Tree → Type 0) (laws : Laws k Fits)
       (λ p. p) (cases-bool (is-in (at new j) (all-cells (st .tree .nodes))))
 
   tree-fits′ : Fits l (next-tree (st .tree) new c)
-  tree-fits′ = laws .fits-next l (st .tree) (st .older) (ones (st .held)) new c gl rd st-goes ki (i .tree-fits)
+  tree-fits′ = laws .fits-next l (st .tree) (st .older) (count-set (st .held)) new c gl rd st-goes ki (i .tree-fits)
       (new-long ∙ sym (ap (λ (t : Tree). more t c) (i .tree-is) ∙ more-ren (at m) (s .tree) c))
       (λ j h. (new-in j h .0, not-in-tree j h))
       new-apart
@@ -365,7 +365,7 @@ module _ (k : Encoding) (Fits : Limits → Tree → Type 0) (laws : Laws k Fits)
       let p = and-parts (not (st .over)) (k .fits l (longer st c)) e in (
         p .1,
         ok-append (st .journal) (record { first = eqb (st .older) 0; call = c }) (i .journal-ok)
-            (laws .ok-next l (st .tree) (st .older) (ones (st .held)) c gl rd st-goes ki (i .tree-fits)),
+            (laws .ok-next l (st .tree) (st .older) (count-set (st .held)) c gl rd st-goes ki (i .tree-fits)),
         λ f. rw (ne-eqb (suc (st .older)) 0 (λ z. omega arith)) (replay-more l (synced-core l (i .root .base)) (st .journal)
             (record { first = eqb (st .older) 0; call = c })
             ∙ (ap (λ (x : Core). redo l x c) (i .journal-is (not-true (st .over) (p .0)))

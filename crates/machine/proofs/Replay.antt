@@ -14,7 +14,7 @@ use Rattle.model.specs.Calls.{garbled, call-number, good-fields, good-name, rea
 use Rattle.model.specs.Refusals.{Limits, refusal, refusal-by}
 use Rattle.model.specs.Fs.{is-in}
 use Rattle.machine.specs.State.{Sized, Item, Core, step, redo, is-push, synced-core, ready, replay, Kind, nothing, push-it, write-it}
-use Rattle.machine.specs.State.{keep-it, sync-it, kind, more, marks, ones, free, marked}
+use Rattle.machine.specs.State.{keep-it, sync-it, kind, more, marks, count-set, free, marked}
 use Rattle.machine.specs.Fits.{ok-name, ok-call, ok-journal, Fits}
 use Rattle.machine.specs.Bounds.{Replay-fits}
 use Rattle.machine.proofs.Invariant.{at}
@@ -73,36 +73,36 @@ ready-sound : (l : Limits) (b : Bool) (x : Core) → Sound l x → Sound l (read
 ready-sound l true x s = sound-of l (x .tree) (s .fits)
 ready-sound l false x s = s
 
-ones-few : (bs : List Bool) → ones bs ≤ length bs
-unfolding ones
+ones-few : (bs : List Bool) → count-set bs ≤ length bs
+unfolding count-set
 ones-few [] = zero-le
 ones-few (true ∷ bs) = let q = ones-few bs in omega arith
 ones-few (false ∷ bs) = let q = ones-few bs in omega arith
 
 -- one step: there are as many free blocks as it wants, and the next tree fits
 module _ (l : Limits) (gl : Sized l) (x : Core) (s : Sound l x) (c : Call) (rd : readable c ≡ true)
-    (goes : refusal l (x .tree) (x .older) (ones (x .held)) c ≡ 0) (ki : kind (x .tree) c ≡ push-it) where
+    (goes : refusal l (x .tree) (x .older) (count-set (x .held)) c ≡ 0) (ki : kind (x .tree) c ≡ push-it) where
   abbrev new : List ℕ
   new = free (more (x .tree) c) (x .held) 0
 
   long : length (x .held) ≡ l .room
   long = ap length (s .held-bits) ∙ length-marks (l .room) 0 (s .blocks)
 
-  parts : (good-fields c ≡ true) × (refusal-by l (x .tree) (x .older) (ones (x .held)) c ≡ 0)
+  parts : (good-fields c ≡ true) × (refusal-by l (x .tree) (x .older) (count-set (x .held)) c ≡ 0)
   parts =
-      let r : ℕ = refusal-by l (x .tree) (x .older) (ones (x .held)) c in
+      let r : ℕ = refusal-by l (x .tree) (x .older) (count-set (x .held)) c in
       let b : Bool = (l .calls-can) (call-number c) && good-fields c in
       let p = cond-then b r 1 (cond-else (eqb (call-number c) 255) (cond b r 2) 0 goes .1) in
       (and-parts ((l .calls-can) (call-number c)) (good-fields c) (p .0) .1, p .1)
 
-  can : (ones (x .held) + more (x .tree) c ≤ l .room) × (x .older < l .pending)
+  can : (count-set (x .held) + more (x .tree) c ≤ l .room) × (x .older < l .pending)
   unfolding Fine
   can =
       let q = ones-few (x .held) in
       let w = long in
-      let f : Fine l (x .tree) (x .older) (ones (x .held)) c push-it =
-      subst (λ (k : Kind). Fine l (x .tree) (x .older) (ones (x .held)) c k) ki
-      (fine l (x .tree) (x .older) (ones (x .held)) c (omega arith) rd (parts .0) (parts .1)) in
+      let f : Fine l (x .tree) (x .older) (count-set (x .held)) c push-it =
+      subst (λ (k : Kind). Fine l (x .tree) (x .older) (count-set (x .held)) c k) ki
+      (fine l (x .tree) (x .older) (count-set (x .held)) c (omega arith) rd (parts .0) (parts .1)) in
       (f .0, f .1)
 
   pub new-long : length (free (more (x .tree) c) (x .held) 0) ≡ more (x .tree) c
@@ -120,7 +120,7 @@ module _ (l : Limits) (gl : Sized l) (x : Core) (s : Sound l x) (c : Call) (rd :
 
   pub step-sound : Sound l (step x c)
   step-sound = record {
-    fits = fits-next l (x .tree) (x .older) (ones (x .held)) new c gl rd goes ki (s .fits) new-long
+    fits = fits-next l (x .tree) (x .older) (count-set (x .held)) new c gl rd goes ki (s .fits) new-long
         (λ j h. (
           new-in j h .0,
           ⊎-elim (λ p. absurd (both-ways (is-in (at new j) (s .blocks)) (new-in j h .1) (s .has (at new j) p)))
@@ -135,14 +135,14 @@ module _ (l : Limits) (gl : Sized l) (x : Core) (s : Sound l x) (c : Call) (rd :
   }
 
 redo-sound : (l : Limits) → Sized l → (x : Core) → Sound l x → (c : Call) → ok-call c ≡ true → Sound l (redo l x c)
-redo-sound l gl x s c ok = go (eqb (refusal l (x .tree) (x .older) (ones (x .held)) c) 0 && is-push (kind (x .tree) c)) refl
+redo-sound l gl x s c ok = go (eqb (refusal l (x .tree) (x .older) (count-set (x .held)) c) 0 && is-push (kind (x .tree) c)) refl
   where
-    go : (b : Bool) → (eqb (refusal l (x .tree) (x .older) (ones (x .held)) c) 0 && is-push (kind (x .tree) c)) ≡ b →
+    go : (b : Bool) → (eqb (refusal l (x .tree) (x .older) (count-set (x .held)) c) 0 && is-push (kind (x .tree) c)) ≡ b →
         Sound l (cond b (step x c) x)
     go false e = s
     go true e =
-        let p = and-parts (eqb (refusal l (x .tree) (x .older) (ones (x .held)) c) 0) (is-push (kind (x .tree) c)) e in
-        step-sound l gl x s c (ok-readable c ok) (eqb-true (refusal l (x .tree) (x .older) (ones (x .held)) c) 0 (p .0))
+        let p = and-parts (eqb (refusal l (x .tree) (x .older) (count-set (x .held)) c) 0) (is-push (kind (x .tree) c)) e in
+        step-sound l gl x s c (ok-readable c ok) (eqb-true (refusal l (x .tree) (x .older) (count-set (x .held)) c) 0 (p .0))
         (push-is (kind (x .tree) c) (p .1))
 
 -- WHATEVER THE JOURNAL: and so of each front of it

@@ -18,7 +18,7 @@ use Rattle.model.specs.Refusals.{Limits, refusal}
 use Rattle.model.specs.Fs.{no-entry}
 use Rattle.model.specs.World.{Act, put-block, keep-all, Program}
 use Rattle.machine.specs.State.{Item, Counts, counts-of, State, Kind, nothing, push-it, write-it, keep-it, sync-it, kind, more, next-tree}
-use Rattle.machine.specs.State.{ones, free, marked, both, own, synced-core, replay}
+use Rattle.machine.specs.State.{count-set, free, marked, both, own, synced-core, replay}
 
 -- what a disk has: which area is live, the tree of the checkpoint there, and the journal
 pub record Root : Type 0 where
@@ -138,7 +138,7 @@ next-by k l st c sync-it =
 
 -- A CALL
 abbrev pub refusal-of : Limits → State → Call → ℕ
-refusal-of l st c = refusal l (st .tree) (st .older) (ones (st .held)) c
+refusal-of l st c = refusal l (st .tree) (st .older) (count-set (st .held)) c
 
 abbrev pub state-says : Limits → State → List Block → Call → Answer
 state-says l st bs c =

@@ -132,9 +132,9 @@ unfoldable pub marks : ℕ → ℕ → List ℕ → List Bool
 marks zero k bs = []
 marks (suc n) k bs = is-in k bs ∷ marks n (suc k) bs
 
-unfoldable pub ones : List Bool → ℕ
-ones [] = 0
-ones (b ∷ bs) = cond b 1 0 + ones bs
+unfoldable pub count-set : List Bool → ℕ
+count-set [] = 0
+count-set (b ∷ bs) = cond b 1 0 + count-set bs
 
 unfoldable pub free : ℕ → List Bool → ℕ → List ℕ
 free zero bs k = []
@@ -170,7 +170,7 @@ step x c =
 -- REPLAY. A call of the journal is done again only where it would not be refused and changes the tree, so that replay needs
 -- no trust in what it reads
 abbrev pub redo : Limits → Core → Call → Core
-redo l x c = cond (eqb (refusal l (x .tree) (x .older) (ones (x .held)) c) 0 && is-push (kind (x .tree) c)) (step x c) x
+redo l x c = cond (eqb (refusal l (x .tree) (x .older) (count-set (x .held)) c) 0 && is-push (kind (x .tree) c)) (step x c) x
 
 -- a tree that was synced: nothing is older, and its own blocks are held
 abbrev pub synced-core : Limits → Tree → Core
