@@ -1,0 +1,9 @@
+pub mod Lookup
+pub mod Edits
+pub mod Stands
+pub mod Alloc
+pub mod Own
+pub mod Append
+pub mod LookupLaws
+pub mod EditLaws
+pub mod AllocLaws
