@@ -1,0 +1,7 @@
+-- Bytes at a place are the first ones from there on.
+use native.Mathlib.Nat.{add-zero}
+use lib.Seq.{getD-drop}
+use Rattle.decode.proofs.parts.number_at.Needs as need
+
+pub returns : need.returns
+returns c = simp (getD-drop, add-zero) (c .from-le-bytes .ensures)
