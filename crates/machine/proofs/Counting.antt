@@ -30,7 +30,8 @@ unfolding marks count-set is-in
 ones-none zero k = refl
 ones-none (suc n) k = rw (ones-none n (suc k))
 
-ones-more : (n k b : ℕ) (bs : List ℕ) → is-in b bs ≡ false → k ≤ b → b < k + n → count-set (marks n k (b ∷ bs)) ≡ suc (count-set (marks n k bs))
+ones-more : (n k b : ℕ) (bs : List ℕ) → is-in b bs ≡ false → k ≤ b → b < k + n →
+    count-set (marks n k (b ∷ bs)) ≡ suc (count-set (marks n k bs))
 unfolding marks count-set is-in
 ones-more zero k b bs h p q = let z : ⊥ = omega arith in absurd z
 ones-more (suc n) k b bs h p q = ⊎-elim

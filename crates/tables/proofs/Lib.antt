@@ -2,8 +2,8 @@
 -- and a copy), Rows (the first row of which a test holds). Trees: Nodes (a node found, changed, left out), Bodies (what the node at a
 -- place has), Keys (names and their keys). Tables: Sums (the running sums, shifted), Summing (the sums made from the nodes), NodeRows
 -- (a node by its id), EntryRows (entries, names and cells), Parts (one node's words in each table), Changes (each change), Operations
--- (the tree's operations), Held (what is read of tables that hold a tree), Ranges (how far they reach). Data blocks: Bits (one word),
--- Packed (many words), Taking (free blocks), Owned (blocks that a tree has). The journal: Appends.
+-- (the tree's operations), Held (what is read of tables that hold a tree), Ranges (how far they reach). Data blocks: Owned
+-- (those that a tree has). The journal: Appends.
 pub mod Splices
 pub mod Rotations
 pub mod Rows
@@ -19,8 +19,5 @@ pub mod Changes
 pub mod Operations
 pub mod Held
 pub mod Ranges
-pub mod Bits
-pub mod Packed
-pub mod Taking
 pub mod Owned
 pub mod Appends

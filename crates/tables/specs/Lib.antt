@@ -1,9 +1,7 @@
 pub mod Lookup
 pub mod Edits
 pub mod Stands
-pub mod Alloc
 pub mod Own
 pub mod Append
 pub mod LookupLaws
 pub mod EditLaws
-pub mod AllocLaws

@@ -1,0 +1,2 @@
+pub mod Bitmap
+pub mod Laws

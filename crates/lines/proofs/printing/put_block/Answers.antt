@@ -1,0 +1,8 @@
+use lib.Chars.{codes}
+use Rattle.words.proofs.Appends.{joins}
+use Rattle.lines.proofs.printing.put_block.Needs as need
+
+pub returns : need.returns
+returns c =
+    joins _ (codes "block") _ (c .in-Continue-extend-from-slice .ensures tt .items)
+    (c .in-Continue-put-word .ensures tt)

@@ -1,0 +1,3 @@
+-- Standing: a player that stands as before
+mod Standing
+pub mod Stage
