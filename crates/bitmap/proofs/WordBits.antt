@@ -12,6 +12,7 @@ use lib.Dec.{eqb}
 use lib.ListN.{length, getD, set, replicate}
 use lib.Pow.{pow-pos}
 use native.Mathlib.Numerals.{add-one}
+use Rattle.blocks.proofs.Bits.{zero-bits}
 use Rattle.std.proofs.shelf.Bits.{mod-pow-add, pow-below}
 use Rattle.std.proofs.shelf.Tests.{cases-eq}
 use Rattle.blocks.specs.Bits.{low-bits, word-bits}
@@ -108,10 +109,6 @@ not-full (suc n) w h ne =
       | inr z ↦ let i = not-full n (w / 2) (omega arith) (λ e. ne (omega arith)) in rw z (omega arith)
     ]
 
-zero-low : (n : ℕ) → low-bits n 0 ≡ replicate n false
-zero-low zero = refl
-zero-low (suc n) = ap (λ t. false ∷ t) (zero-low n)
-
 -- the bits that two words share are those of their `and`
 both-low : (n x y k : ℕ) → both (low-bits n x) (low-bits n y) k ≡ set-places (low-bits n (bitAnd x y)) k
 unfolding both set-places
@@ -145,7 +142,7 @@ length-word w = length-low 64 w
 
 pub zero-word : word-bits 0 ≡ replicate 64 false
 unfolding word-bits
-zero-word = zero-low 64
+zero-word = zero-bits 64
 
 pub get-word : (w k : ℕ) → k < 64 → getD (word-bits w) k false ≡ eqb (w / 2 ^ k % 2) 1
 unfolding word-bits

@@ -22,7 +22,7 @@ bits-small (suc n) (true ∷ bs) h = let p = pow-suc 2 n in let i = bits-small n
 bits-small (suc n) (false ∷ bs) h = let p = pow-suc 2 n in let i = bits-small n bs (omega arith) in omega arith
 
 -- the bits of a number that bits make: those bits, and then none
-zero-bits : (n : ℕ) → low-bits n 0 ≡ replicate n false
+pub zero-bits : (n : ℕ) → low-bits n 0 ≡ replicate n false
 zero-bits zero = refl
 zero-bits (suc n) = ap (λ t. false ∷ t) (zero-bits n)
 

@@ -3,7 +3,7 @@ use mathlib.Core.Path.{_≡_, refl, sym, ap, subst, _∙_}
 use mathlib.Core.Logic.{_⊎_, ⊎-elim}
 use mathlib.Core.Bool.{Bool, true, false, not, _&&_, cond}
 use mathlib.Core.List.{List, [], _∷_, map}
-use Prim.Native.Nat.{ℕ, suc, _-_, _≤_, _<_, zero-le}
+use Prim.Native.Nat.{ℕ, suc, _-_, _≤_, _<_}
 use native.Mathlib.Omega.{arith}
 use lib.Dec.{eqb}
 use lib.ListN.{length, length-map, getD}
@@ -19,24 +19,19 @@ use Rattle.model.specs.Promise.{Right, Comes-to-an-end, Stays-small}
 use Rattle.machine.specs.State.{Sized, counts-of, State, ren, Kind, nothing, push-it, write-it, keep-it, sync-it, kind, count-set}
 use Rattle.machine.specs.Program.{Encoding, by-checkpoint, by-journal, rested, reply-by, acts-by, next-by, refusal-of, state-says}
 use Rattle.machine.specs.Program.{state-does, state-next, program}
+use Rattle.machine.proofs.Counting.{length-marks, count-few}
 use Rattle.machine.proofs.Invariant.{at, held-cells, Laws, Idle, Busy, Calls-go}
 use Rattle.machine.proofs.Lists.{in-nth}
 use Rattle.machine.proofs.Disks.{getD-seen}
 use Rattle.machine.proofs.Renaming.{refusal-ren, find-ren, entries-ren, cells-of-ren}
 use Rattle.machine.proofs.Changes.{changed-by, changed-is, ren-kind, kind-ren, Fine, fine, cond-then, cond-else, place-in, in-body}
 use Rattle.machine.proofs.Counting.{held-count}
-use Rattle.machine.proofs.Histories.{length-marks, right-by, ends-by, small-by}
+use Rattle.machine.proofs.Histories.{right-by, ends-by, small-by}
 use Rattle.machine.proofs.Power.{power-goes}
 use Rattle.machine.proofs.Frames.{new-goes}
 use Rattle.machine.proofs.Writes.{tree-held, stays, writes, keeps}
 use Rattle.machine.proofs.Sync.{syncs, notes}
 use Rattle.machine.proofs.Push.{pushes}
-
-ones-short : (bs : List Bool) → count-set bs ≤ length bs
-unfolding count-set
-ones-short [] = zero-le
-ones-short (true ∷ bs) = let q = ones-short bs in omega arith
-ones-short (false ∷ bs) = let q = ones-short bs in omega arith
 
 count-zero : (ts : List Tree) → length ts ≡ 0 → ts ≡ []
 count-zero [] e = refl
@@ -49,7 +44,7 @@ module _ (k : Encoding) (Fits : Limits → Tree → Type 0) (laws : Laws k Fits)
 
   held-short : held s ≤ l .room
   held-short =
-      let q = ones-short (st .held) in
+      let q = count-few (st .held) in
       let p : length (st .held) ≡ l .room = ap length (i .held-bits) ∙ length-marks (l .room) 0 (map (at m) (held-cells s)) in
       let r = held-is in
       omega arith

@@ -14,6 +14,17 @@ use Rattle.machine.specs.State.{marks, count-set, free, marked}
 use Rattle.machine.proofs.Invariant.{at, Placed}
 use Rattle.machine.proofs.Lists.{in-append, in-map, of-map, same-in}
 
+pub length-marks : (n i : ℕ) (bs : List ℕ) → length (marks n i bs) ≡ n
+unfolding marks
+length-marks zero i bs = refl
+length-marks (suc n) i bs = ap suc (length-marks n (suc i) bs)
+
+pub count-few : (bs : List Bool) → count-set bs ≤ length bs
+unfolding count-set
+count-few [] = zero-le
+count-few (true ∷ bs) = let q = count-few bs in omega arith
+count-few (false ∷ bs) = let q = count-few bs in omega arith
+
 pub marks-same : (n k : ℕ) (xs ys : List ℕ) → ((c : ℕ) → is-in c xs ≡ is-in c ys) → marks n k xs ≡ marks n k ys
 unfolding marks
 marks-same zero k xs ys h = refl

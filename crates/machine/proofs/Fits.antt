@@ -21,6 +21,7 @@ use Rattle.model.specs.Laws.{cell-twice}
 use Rattle.machine.specs.State.{Sized, entry-count, Kind, nothing, push-it, write-it, keep-it, sync-it, kind, more, next-tree, marks}
 use Rattle.machine.specs.State.{count-set}
 use Rattle.machine.specs.Fits.{every, ok-entry, ok-node, rising, Fits}
+use Rattle.machine.proofs.Counting.{length-marks, count-few}
 use Rattle.machine.proofs.Invariant.{at}
 use Rattle.machine.proofs.Lists.{in-append, in-left, in-right, in-either, in-take, in-at}
 use Rattle.machine.proofs.Changes.{cond-then, cond-else, Has, in-body, with-body-from, without-node-from}
@@ -45,22 +46,11 @@ unfolding cell-twice each-once
 once-all [] h = refl
 once-all (x ∷ xs) h = let p = or-parts (is-in x xs) (cell-twice xs) h in rw (p .0) (let q = once-all xs (p .1) in omega arith)
 
-ones-short : (bs : List Bool) → count-set bs ≤ length bs
-unfolding count-set
-ones-short [] = zero-le
-ones-short (true ∷ bs) = let q = ones-short bs in omega arith
-ones-short (false ∷ bs) = let q = ones-short bs in omega arith
-
-length-marks : (n i : ℕ) (bs : List ℕ) → length (marks n i bs) ≡ n
-unfolding marks
-length-marks zero i bs = refl
-length-marks (suc n) i bs = ap suc (length-marks n (suc i) bs)
-
 pub cells-few : (l : Limits) (t : Tree) → Fits l t → length (all-cells (t .nodes)) ≤ l .room
 cells-few l t f =
     let xs : List ℕ = all-cells (t .nodes) in
     let p : count-set (marks (l .room) 0 xs) ≡ length xs = ones-each (l .room) xs (f .inside) ∙ once-all xs (f .apart) in
-    let q = ones-short (marks (l .room) 0 xs) in
+    let q = count-few (marks (l .room) 0 xs) in
     let r = length-marks (l .room) 0 xs in
     omega arith
 
@@ -563,7 +553,7 @@ unfolding is-push
 cond-push true e = absurd (false≢true (ap is-push e))
 cond-push false e = refl
 
-dir-there : (bs : List Body) → is-dir bs ≡ true → some-of bs ≡ true
+pub dir-there : (bs : List Body) → is-dir bs ≡ true → some-of bs ≡ true
 unfolding is-dir some-of
 dir-there [] h = h
 dir-there (b ∷ bs) h = refl

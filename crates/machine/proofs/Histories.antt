@@ -17,15 +17,10 @@ use Rattle.model.specs.World.{put-block, keep-all, Act, Disk, did, did-all, see
 use Rattle.model.specs.World.{blocks-for, Fit, new, begins, one-done, answered, power, power-again, mended}
 use Rattle.model.specs.Promise.{all-readable, Good-limits, good-acts, all-below, under-readable, Comes-to-an-end, Stays-small, at-first}
 use Rattle.model.specs.Promise.{told, cut-late, cut-early, gone, Explains, Right}
-use Rattle.machine.specs.State.{Sized, State, marks}
+use Rattle.machine.specs.State.{Sized, State}
 use Rattle.machine.specs.Program.{Encoding, wakes, program, state-says, state-does, state-next}
+use Rattle.machine.proofs.Counting.{length-marks}
 use Rattle.machine.proofs.Invariant.{Laws, Idle, Some-safe, Some-idle, Busy, Calls-go, Power-goes, held-cells, at, Small-mem}
-
--- power again, before anynode was done
-pub length-marks : (n i : ℕ) (bs : List ℕ) → length (marks n i bs) ≡ n
-unfolding marks
-length-marks zero i bs = refl
-length-marks (suc n) i bs = ap suc (length-marks n (suc i) bs)
 
 pub getD-one : {A : Type 0} (a : A) (i : ℕ) → getD (a ∷ []) i a ≡ a
 getD-one a zero = refl

@@ -14,6 +14,7 @@ use Rattle.model.specs.Calls.{garbled, call-number, good-fields, good-name, rea
 use Rattle.model.specs.Refusals.{Limits, may-change, a-dir, removing, renaming, refusal, refusal-by}
 use Rattle.machine.specs.State.{Sized, Kind, nothing, push-it, write-it, keep-it, sync-it, kind, is-push}
 use Rattle.machine.specs.Fits.{ok-call, Fits, every, ok-entry, ok-node}
+use Rattle.machine.proofs.Fits.{dir-there}
 use Rattle.machine.proofs.Changes.{cond-then, cond-else, cond-case}
 
 -- what is there has a number below the next
@@ -26,11 +27,6 @@ there-below n i (t ∷ ts) o h =
     ⊎-elim (λ r. subst (λ (x : ℕ). x < n) (sym (eqb-true i (t .id) (r .0))) (ltb-true (t .id) n (q .0)))
     (λ r. there-below n i ts (p .1) (r .1))
     (cond-case (λ (bs : List Body). some-of bs ≡ true) (eqb i (t .id)) (t .body ∷ []) (find-node i ts) h)
-
-dir-there : (bs : List Body) → is-dir bs ≡ true → some-of bs ≡ true
-unfolding is-dir some-of
-dir-there [] h = h
-dir-there (b ∷ bs) h = refl
 
 file-there : (bs : List Body) → is-file bs ≡ true → some-of bs ≡ true
 unfolding is-file some-of

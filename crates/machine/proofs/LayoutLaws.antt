@@ -31,12 +31,12 @@ use Rattle.machine.specs.Layout.{counts-from, super-journal, super-block, head
 use Rattle.machine.specs.Layout.{checkpoint-size, live-area, base-from, root-from, layout}
 use Rattle.machine.specs.Fits.{ok-journal, Fits}
 use Rattle.machine.specs.Bounds.{Areas-apart, Checkpoints-fit, Memory-fits, Decodes, Loads}
-use Rattle.machine.proofs.Invariant.{good-block}
-use Rattle.machine.proofs.Fits.{cells-few}
+use Rattle.machine.proofs.Invariant.{Laws, good-block}
+use Rattle.machine.proofs.Fits.{fits-new, fits-next, cells-few}
 use Rattle.machine.proofs.Tables.{Few, nodes-back, length-nodes, length-entries, length-sums, cells-are, small-node-words}
 use Rattle.machine.proofs.Tables.{small-sum-words, small-entry-words, small-below}
 use Rattle.machine.proofs.JournalWords.{journal-read, small-journal, bit-small}
-use Rattle.machine.proofs.Main.{Encoding-laws}
+use Rattle.machine.proofs.JournalCalls.{ok-next}
 
 -- COUNTS of a tree that fits
 module _ (l : Limits) (sz : Sized l) (t : Tree) (f : Fits l t) where
@@ -461,10 +461,13 @@ root-back l bs r sz len ft jf ok top area =
     ends l false n m a b c = omega arith
 
 -- ALL LAWS
-pub layout-laws : Encoding-laws layout
+pub layout-laws : Laws layout Fits
 layout-laws = record {
   dec-enc = λ l st sz f o lh lf jf ok. state-back l st sz f lh lf jf ok;
   loads = root-back;
+  fits-new = fits-new;
+  fits-next = fits-next;
+  ok-next = ok-next;
   fits-none = λ l. refl;
   area-short = checkpoint-short;
   areas-fit = area-small;

@@ -6,7 +6,7 @@
 --   Invariant               how memory and the disk stand for a file system
 --   Frames, Power           what acts leave alone, a new disk; what a loss of power leaves
 --   Writes, Sync, Push      the calls, by kind
---   Histories, Calls, Main  induction over everything that can happen; the promises, for any encoding
+--   Histories, Calls        induction over everything that can happen; the promises, for any encoding
 --   Tables, JournalWords, LayoutLaws    the layout is such an encoding
 --   Quiet, Cost             what does nothing; acts counted
 pub mod Lists
@@ -25,7 +25,6 @@ pub mod Sync
 pub mod Push
 pub mod Histories
 pub mod Calls
-pub mod Main
 pub mod Tables
 pub mod JournalWords
 pub mod LayoutLaws

@@ -22,6 +22,7 @@ use Rattle.machine.specs.State.{Sized, Item, State, Core, step, is-push, redo,
 use Rattle.machine.specs.State.{ren-nodes, marks, count-set, free, marked, more, next-tree}
 use Rattle.machine.specs.Program.{longer, has-place, Encoding, refusal-of}
 use Rattle.machine.specs.Fits.{ok-call, ok-journal}
+use Rattle.machine.proofs.Counting.{length-marks}
 use Rattle.machine.proofs.Invariant.{at, last, last-cells, held-cells, Placed, Stored, Laws, Safe, Idle, Busy}
 use Rattle.machine.proofs.Lists.{getD-set-apart, getD-append-at, getD-replicate-any}
 use Rattle.machine.proofs.Lists.{in-left, in-right, in-either, in-map, of-map, in-nth, in-at, in-numbers, length-numbers, same-in}
@@ -29,7 +30,6 @@ use Rattle.machine.proofs.Renaming.{all-cells-ren}
 use Rattle.machine.proofs.Renaming.{more-ren, next-ren}
 use Rattle.machine.proofs.Changes.{pushed, next-from, next-has}
 use Rattle.machine.proofs.Counting.{marks-same, marked-marks, held-count, free-length, free-apart, free-in}
-use Rattle.machine.proofs.Histories.{length-marks}
 use Rattle.machine.proofs.Writes.{tree-held, last-held, before, take-none}
 
 -- one more in a journal

@@ -17,12 +17,12 @@ use Rattle.machine.specs.State.{Sized, Item, Core, step, redo, is-push, synced
 use Rattle.machine.specs.State.{keep-it, sync-it, kind, more, marks, count-set, free, marked}
 use Rattle.machine.specs.Fits.{ok-name, ok-call, ok-journal, Fits}
 use Rattle.machine.specs.Bounds.{Replay-fits}
+use Rattle.machine.proofs.Counting.{length-marks, count-few}
 use Rattle.machine.proofs.Invariant.{at}
 use Rattle.machine.proofs.Lists.{in-left, in-right}
 use Rattle.machine.proofs.Changes.{cond-then, cond-else, Fine, fine, next-from}
 use Rattle.machine.proofs.Counting.{marked-marks, free-length, free-apart, free-in}
 use Rattle.machine.proofs.Fits.{fits-next}
-use Rattle.machine.proofs.Histories.{length-marks}
 
 -- what a journal can carry, a call can
 eight-of : (d : ℕ) → ltb d 4294967296 ≡ true → eight d ≡ true
@@ -73,12 +73,6 @@ ready-sound : (l : Limits) (b : Bool) (x : Core) → Sound l x → Sound l (read
 ready-sound l true x s = sound-of l (x .tree) (s .fits)
 ready-sound l false x s = s
 
-ones-few : (bs : List Bool) → count-set bs ≤ length bs
-unfolding count-set
-ones-few [] = zero-le
-ones-few (true ∷ bs) = let q = ones-few bs in omega arith
-ones-few (false ∷ bs) = let q = ones-few bs in omega arith
-
 -- one step: there are as many free blocks as it wants, and the next tree fits
 module _ (l : Limits) (gl : Sized l) (x : Core) (s : Sound l x) (c : Call) (rd : readable c ≡ true)
     (goes : refusal l (x .tree) (x .older) (count-set (x .held)) c ≡ 0) (ki : kind (x .tree) c ≡ push-it) where
@@ -98,7 +92,7 @@ module _ (l : Limits) (gl : Sized l) (x : Core) (s : Sound l x) (c : Call) (rd :
   can : (count-set (x .held) + more (x .tree) c ≤ l .room) × (x .older < l .pending)
   unfolding Fine
   can =
-      let q = ones-few (x .held) in
+      let q = count-few (x .held) in
       let w = long in
       let f : Fine l (x .tree) (x .older) (count-set (x .held)) c push-it =
       subst (λ (k : Kind). Fine l (x .tree) (x .older) (count-set (x .held)) c k) ki

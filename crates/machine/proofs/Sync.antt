@@ -23,7 +23,7 @@ use Rattle.machine.specs.State.{Sized, Counts, counts-of, State, ren, marks, C
 use Rattle.machine.specs.Program.{Root, Encoding, area-start, rested, puts, zeros, by-checkpoint, by-journal}
 use native.Mathlib.Nat.{not-suc-le-zero, zero-add, add-zero}
 use Rattle.machine.specs.Fits.{ok-journal}
-use Rattle.machine.proofs.Histories.{length-marks}
+use Rattle.machine.proofs.Counting.{length-marks}
 use Rattle.machine.proofs.Invariant.{good-block, at, still, left, Covers, last-cells, Placed, Laws, Safe, Idle, Some-safe, Busy}
 use Rattle.machine.proofs.Lists.{getD-set-apart}
 use Rattle.machine.proofs.Disks.{getD-kept, length-kept, length-did-all, did-all-append}

@@ -59,15 +59,15 @@ entries-back k (e ∷ es) ws h =
     let r : entries-from (length es) J ≡ es = entries-back k es ws (p .1) in
     ap (entries-from (suc (length es))) a ∙ (ap (λ x. x ∷ entries-from (length es) J) b ∙ ap (λ x. e ∷ x) r)
 
-entries-of : (b : Body) → entries (b ∷ []) ≡ entries-in b
+pub entries-is : (b : Body) → entries (b ∷ []) ≡ entries-in b
 unfolding entries
-entries-of (dir es) = refl
-entries-of (file cs) = refl
+entries-is (dir es) = refl
+entries-is (file cs) = refl
 
-cells-of : (b : Body) → cells (b ∷ []) ≡ cells-in b
+pub cells-is : (b : Body) → cells (b ∷ []) ≡ cells-in b
 unfolding cells
-cells-of (dir es) = refl
-cells-of (file cs) = refl
+cells-is (dir es) = refl
+cells-is (file cs) = refl
 
 pub nodes-back : (k : ℕ) (ts : List Node) (x y z : List ℕ) → every (ok-node k) ts ≡ true →
     nodes-from (length ts) (node-words ts ++ x) (entry-words ts ++ y) (cell-words ts ++ z) ≡ ts
@@ -76,7 +76,7 @@ nodes-back k [] x y z h = refl
 nodes-back k (t ∷ ts) x y z h =
     let p = and-parts (ok-node k t) (every (ok-node k) ts) h in
     let q = and-parts (ltb (t .id) k) (every (ok-entry k) (entries (t .body ∷ []))) (p .0) in
-    one (t .body) (ap (every (ok-entry k)) (sym (entries-of (t .body))) ∙ q .1) (nodes-back k ts x y z (p .1))
+    one (t .body) (ap (every (ok-entry k)) (sym (entries-is (t .body))) ∙ q .1) (nodes-back k ts x y z (p .1))
   where
     N : List ℕ
     N = node-words ts ++ x
@@ -121,14 +121,14 @@ length-entries [] = refl
 length-entries (t ∷ ts) =
     let a = length-append (node-entries t) (entry-words ts) in
     let b = length-joined 16 entry-row (λ q. refl) (entries-in (t .body)) in
-    let c = ap length (entries-of (t .body)) in
+    let c = ap length (entries-is (t .body)) in
     let ih = length-entries ts in
     omega arith
 
 pub cells-are : (ts : List Node) → cell-words ts ≡ all-cells ts
 unfolding all-cells
 cells-are [] = refl
-cells-are (t ∷ ts) = rw (cells-of (t .body), cells-are ts)
+cells-are (t ∷ ts) = rw (cells-is (t .body), cells-are ts)
 
 pub length-sums : (e c : ℕ) (ts : List Node) → length (sum-words e c ts) ≡ 2 * length ts
 length-sums e c [] = refl
@@ -166,7 +166,7 @@ small-entry-words k (t ∷ ts) b h =
     let p = and-parts (ok-node k t) (every (ok-node k) ts) h in
     let q = and-parts (ltb (t .id) k) (every (ok-entry k) (entries (t .body ∷ []))) (p .0) in
     small-append (node-entries t) (entry-words ts)
-    (small-entries k (entries-in (t .body)) b (ap (every (ok-entry k)) (sym (entries-of (t .body))) ∙ q .1))
+    (small-entries k (entries-in (t .body)) b (ap (every (ok-entry k)) (sym (entries-is (t .body))) ∙ q .1))
     (small-entry-words k ts b (p .1))
 
 count-small : (b : Body) (n : ℕ) → length (entries (b ∷ [])) < n → length (cells (b ∷ [])) < n → (kind-of b < 2) × (count-of b < n)
@@ -196,8 +196,8 @@ unfolding entry-count all-cells
 small-sum-words n e c [] b f g = tt
 small-sum-words n e c (t ∷ ts) b f g =
     let l = length-append (cells (t .body ∷ [])) (all-cells ts) in
-    let x = ap length (entries-of (t .body)) in
-    let y = ap length (cells-of (t .body)) in (
+    let x = ap length (entries-is (t .body)) in
+    let y = ap length (cells-is (t .body)) in (
       omega arith,
       (
         omega arith,

@@ -27,7 +27,8 @@ put-last n at front new l =
     let e2 : drop at (front ++ Z) ≡ Z = drop-at front Z at l in
     let e3 : drop k Z ≡ replicate (z - k) 0 = drop-replicate k z 0 in
     let e4 : n - length (front ++ new) ≡ z - k = let a = length-append front new in omega arith in
-    let e5 : (front ++ new) ++ replicate (z - k) 0 ≡ front ++ (new ++ replicate (z - k) 0) = append-assoc front new (replicate (z - k) 0) in
+    let e5 : (front ++ new) ++ replicate (z - k) 0 ≡ front ++ (new ++ replicate (z - k) 0) =
+    append-assoc front new (replicate (z - k) 0) in
     cc
 
 module _ (l : Limits) (live : Bool) (base : Counts) (js : List Item) (i : Item) where

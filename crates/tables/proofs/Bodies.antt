@@ -6,21 +6,12 @@ use mathlib.Core.List.{List, [], _∷_}
 use Prim.Native.Nat.{ℕ}
 use native.Mathlib.Omega.{arith}
 use lib.ListN.{length}
+use Rattle.machine.proofs.Tables.{entries-is, cells-is}
 use Rattle.model.specs.Tree.{Body, dir, file, Node, find-node, with-body, entries, cells, is-dir, is-file}
 use Rattle.machine.specs.Tables.{kind-of, count-of, entries-in, cells-in}
 use Rattle.tables.specs.Lookup.{Place}
 use Rattle.tables.specs.Stands.{Stands, Dir-at, File-at}
 use Rattle.tables.proofs.Nodes.{found, edited}
-
-pub entries-is : (b : Body) → entries (b ∷ []) ≡ entries-in b
-unfolding entries
-entries-is (dir es) = refl
-entries-is (file cs) = refl
-
-pub cells-is : (b : Body) → cells (b ∷ []) ≡ cells-in b
-unfolding cells
-cells-is (dir es) = refl
-cells-is (file cs) = refl
 
 pub dir-has : (b : Body) → kind-of b ≡ 0 → (length (entries-in b) ≡ count-of b) × (cells-in b ≡ [])
 dir-has (dir es) e = (refl, refl)

@@ -311,7 +311,8 @@ module _ {m room : ℕ} {t : Tree} {T : Tables} (h : Holds m room t T) {i : ℕ}
     sums =
         ap (λ x. shifted (λ y. y - 0) (λ y. y - p .count) (nodes-after p T) (p .row) (closed (2 * T .used .nodes) (2 * p .row) 2 x))
         (h .sums ∙ ap (λ x. pad (2 * m) (sum-words 0 0 x)) (s .whole))
-        ∙ (sums-gone i (s .pre) was (s .post) (λ y. y - 0) (λ y. y - p .count) (2 * m) (T .used .nodes) (p .row) (nodes-after p T) (s .row)
+        ∙ (sums-gone i (s .pre) was (s .post) (λ y. y - 0) (λ y. y - p .count) (2 * m) (T .used .nodes) (p .row) (nodes-after p T)
+        (s .row)
         nodes-left (omega (arith, used-nodes)) (let f = h .nodes-fit in omega arith) (λ x. omega (arith, le)) (λ x. omega (arith, lc))
         ∙ ap (λ x. pad (2 * m) (sum-words 0 0 x)) (sym less));
     entries =

@@ -16,6 +16,7 @@ use Rattle.blocks.proofs.Joins.{joined-append, drop-row}
 use Rattle.blocks.proofs.Words.{name-back}
 use Rattle.model.specs.Tree.{Name, Entry, Node, same, find-node, find-name, entries, cells}
 use Rattle.model.specs.Fs.{no-entry}
+use Rattle.machine.proofs.Tables.{entries-is}
 use Rattle.machine.specs.Tables.{name-key, entry-row, node-entries, entry-words, node-cells, cell-words, entry-from}
 use Rattle.machine.specs.Fits.{every, ok-name, ok-entry, ok-node}
 use Rattle.machine.proofs.Tables.{Short, short-name, length-entries, cells-are}
@@ -23,7 +24,7 @@ use Rattle.tables.specs.Lookup.{Place, entry-id, entry-key, name-row}
 use Rattle.tables.specs.Stands.{Stands, Entry-stands, Name-looked-up}
 use Rattle.tables.proofs.Rows.{Hit, first-case}
 use Rattle.tables.proofs.Keys.{same-decides, same-keys, every-at, none-named, name-past, name-here}
-use Rattle.tables.proofs.Bodies.{entries-is, own-entries, own-cells, dir-at, file-at}
+use Rattle.tables.proofs.Bodies.{own-entries, own-cells, dir-at, file-at}
 
 -- the entries of the node at a place are names
 ok-entries : (next : ℕ) (xs : List Node) (t : Node) (ys : List Node) → every (ok-node next) (xs ++ (t ∷ ys)) ≡ true →

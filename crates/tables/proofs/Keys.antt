@@ -49,7 +49,8 @@ every-at next (e ∷ es) zero h lt =
 every-at next (e ∷ es) (suc k) h lt = every-at next es k (and-parts (ok-entry next e) (every (ok-entry next) es) h .1) (omega arith)
 
 -- no entry has the name
-pub none-named : (n : Name) (es : List Entry) → ((j : ℕ) → j < length es → same n (getD es j no-entry .name) ≡ false) → find-name n es ≡ []
+pub none-named : (n : Name) (es : List Entry) → ((j : ℕ) → j < length es → same n (getD es j no-entry .name) ≡ false) →
+    find-name n es ≡ []
 unfolding find-name
 none-named n [] f = refl
 none-named n (e ∷ es) f = rw (f 0 (omega arith)) (none-named n es (λ j lt. f (suc j) (suc-le-suc lt)))

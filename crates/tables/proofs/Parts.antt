@@ -174,7 +174,8 @@ module _ (i : ℕ) (pre : List Node) (a : Body) (post : List Node) where
         let A : List ℕ = sum-words (E + length (entries-in a)) (C + length (cells-in a)) post in
         let Z : List ℕ = replicate (n - length (S ++ A)) 0 in
         let la : length A ≡ 2 * k = length-sums (E + length (entries-in a)) (C + length (cells-in a)) post ∙ ap (λ x. 2 * x) after in
-        let l : length (S ++ P) ≡ length (S ++ A) = length-append S P ∙ (ap (λ x. length S + x) (lp ∙ sym la) ∙ sym (length-append S A)) in
+        let l : length (S ++ P) ≡ length (S ++ A) = length-append S P
+        ∙ (ap (λ x. length S + x) (lp ∙ sym la) ∙ sym (length-append S A)) in
         let e0 : sum-words 0 0 (whole a) ≡ S ++ ((E ∷ C ∷ []) ++ A) = sums-append 0 0 pre (node a ∷ post) in
         let e1 : closed (2 * used) (2 * r) 2 (pad n (S ++ ((E ∷ C ∷ []) ++ A))) ≡ pad n (S ++ A) =
         closed-pad n (2 * used) (2 * r) 2 S (E ∷ C ∷ []) A ls refl (omega arith) fits in

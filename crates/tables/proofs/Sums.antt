@@ -7,10 +7,10 @@ use native.Mathlib.Omega.{arith}
 use lib.ListN.{length, getD, set, length-append}
 use lib.Seq.{set-at, getD-at}
 use Rattle.model.specs.Tree.{Node, cells, all-cells}
+use Rattle.machine.proofs.Tables.{entries-is, cells-is}
 use Rattle.machine.specs.State.{entry-count}
 use Rattle.machine.specs.Tables.{entries-in, cells-in, sum-words}
 use Rattle.tables.specs.Edits.{shifted, shifted-row}
-use Rattle.tables.proofs.Bodies.{entries-is, cells-is}
 
 -- how much nodes have, one after another
 pub entries-more : (t : Node) (ts : List Node) → entry-count (t ∷ ts) ≡ length (entries-in (t .body)) + entry-count ts

@@ -2,9 +2,8 @@
 use mathlib.Core.Path.{_≡_}
 use mathlib.Core.List.{List, [], _∷_, _++_}
 use Prim.Native.Nat.{ℕ, suc, _+_, _*_, _-_, _≤_, _<_}
-use lib.ListN.{length, take, drop, replicate}
-use borrow.Rule.Slice.PartMut.{putMid}
-use Rattle.blocks.specs.Words.{opened, closed}
+use lib.ListN.{length, take}
+use Rattle.blocks.specs.Words.{closed}
 use Rattle.model.specs.Tree.{Name, Body, file, Tree, body-of, entries, cells, named, put-body, put-entry, drop-entry, drop-node}
 use Rattle.model.specs.Tree.{made, removed, without-any, moved}
 use Rattle.machine.specs.Tables.{kind-of, entries-in, cells-in, entry-row}
@@ -28,7 +27,8 @@ Drop-entry = (m room : ℕ) (t : Tree) (T : Tables) (d : ℕ) (p : Place) → He
 
 -- NODES. One more, last, with nothing in it
 abbrev pub Add-node : Type 0
-Add-node = (m room : ℕ) (t : Tree) (T : Tables) → Holds m room t T → T .used .nodes < m → (b : Body) → entries-in b ≡ [] → cells-in b ≡ [] →
+Add-node = (m room : ℕ) (t : Tree) (T : Tables) → Holds m room t T → T .used .nodes < m → (b : Body) → entries-in b ≡ [] →
+    cells-in b ≡ [] →
     Holds m room (record { nodes = t .nodes ++ (record { id = t .next; body = b } ∷ []); next = suc (t .next) }) (added (kind-of b) T)
 
 -- one fewer, without entries
@@ -69,17 +69,3 @@ Rename = (m room : ℕ) (t s : Tree) (T : Tables) (d : ℕ) (p : Place) (n : Nam
     without-any e k (named t e k) t ≡ s → Held-at m room s T d p → p .kind ≡ 0 → Entry-stands n (entries (body-of s d)) j →
     Stands e (drop-entry d n s .nodes) q → q .kind ≡ 0 →
     Holds m room (moved d n e k i t) (entered q (entry-row (record { name = k; id = i })) (left p j T))
-
--- IN A TABLE ITSELF: words come in by a rotation to the right and a copy, and go by a rotation to the left and a fill. R is the
--- part in use after the rotation
-abbrev pub Rotate-in : Type 0
-Rotate-in = (at used m : ℕ) (ws R row : List ℕ) → at ≤ used → used + length row ≤ length ws → m ≡ (used + length row) - at →
-    let part : List ℕ = take m (drop at ws) in
-    R ≡ drop (length part - length row) part ++ take (length part - length row) part →
-    putMid at ((at + length row) - at) (putMid at m ws R) row ≡ opened used at row ws
-
-abbrev pub Rotate-out : Type 0
-Rotate-out = (at used n m : ℕ) (ws R Z : List ℕ) → at + n ≤ used → used ≤ length ws → m ≡ used - at →
-    R ≡ drop n (take m (drop at ws)) ++ take n (take m (drop at ws)) →
-    Z ≡ replicate (length (take (used - (used - n)) (drop (used - n) (putMid at m ws R)))) 0 →
-    putMid (used - n) (used - (used - n)) (putMid at m ws R) Z ≡ closed used at n ws

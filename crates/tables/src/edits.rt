@@ -1,6 +1,5 @@
 // Tables that hold a tree hold it after a change, too. Nothing here runs; each function asks for the proof of a law.
 ghost use Rattle.tables.specs.EditLaws.{Put-entry, Drop-entry, Add-node, Drop-node, Drop-sums, Grow, Cut, Make, Remove, Rename};
-ghost use Rattle.tables.specs.EditLaws.{Rotate-in, Rotate-out};
 
 // A directory with one entry more.
 pub fn put_entry() -> u8
@@ -68,20 +67,6 @@ pub fn remove() -> u8
 // A node renamed.
 pub fn rename() -> u8
     ensures { λ _. ⌜ Rename ⌝ }
-{
-    0
-}
-
-// Words come into a table by a rotation and a copy.
-pub fn rotate_in() -> u8
-    ensures { λ _. ⌜ Rotate-in ⌝ }
-{
-    0
-}
-
-// Words go from a table by a rotation and a fill.
-pub fn rotate_out() -> u8
-    ensures { λ _. ⌜ Rotate-out ⌝ }
 {
     0
 }
