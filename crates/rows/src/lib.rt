@@ -4,3 +4,4 @@ pub mod cells;
 pub mod entries;
 pub mod keys;
 pub mod nodes;
+pub mod used;

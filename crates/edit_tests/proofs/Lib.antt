@@ -1,0 +1,2 @@
+-- Index: tables of a small tree hold it (Small)
+mod Small
