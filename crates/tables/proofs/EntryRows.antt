@@ -27,7 +27,7 @@ use Rattle.tables.proofs.Keys.{same-decides, same-keys, every-at, none-named, 
 use Rattle.tables.proofs.Bodies.{own-entries, own-cells, dir-at, file-at}
 
 -- the entries of the node at a place are names
-ok-entries : (next : ℕ) (xs : List Node) (t : Node) (ys : List Node) → every (ok-node next) (xs ++ (t ∷ ys)) ≡ true →
+pub ok-entries : (next : ℕ) (xs : List Node) (t : Node) (ys : List Node) → every (ok-node next) (xs ++ (t ∷ ys)) ≡ true →
     every (ok-entry next) (entries (t .body ∷ [])) ≡ true
 unfolding every
 ok-entries next [] t ys h =

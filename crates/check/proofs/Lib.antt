@@ -1,0 +1,2 @@
+-- Index: a call as code has it (Asked)
+mod Asked

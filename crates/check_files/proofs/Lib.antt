@@ -1,0 +1,2 @@
+-- Index: refusals by what was found (Reasons)
+mod Reasons

@@ -1,0 +1,3 @@
+-- Index: refusals by what was found (Reasons), those of renames (Moves)
+mod Reasons
+mod Moves
