@@ -20,8 +20,8 @@ WORD = re.compile(r"""[^\s(){}\[\],;.:"`@]+""")
 DEFINES = re.compile(r"^\s*(?:(?:abbrev|unfoldable|pub) )*([^\s(){}\[\],;.:]+)(?: \{[^{}]*\})* : ")
 HEAD = re.compile(r"^\s*(?:(?:abbrev|unfoldable|pub) )*(?:record|data) ([^\s(){}\[\],;.:]+)")
 ALIAS = re.compile(r" as ([a-z]+-[\w'-]+)")
-# The first line of a text and a line of code as a script's line would both be line_of.
-APART = {"line-of": "first_line"}
+# The first line of a text and a line of code as a script's line would both be line_of; two facts would be called as two steps.
+APART = {"line-of": "first_line", "Same-name": "IsSameName", "Same-size": "IsSameSize"}
 STD = {"length", "take", "drop", "append", "get_or", "getD", "set", "map", "sum", "replicate", "reverse", "filter", "set_bits"}
 
 
@@ -132,8 +132,9 @@ def parts_of_antt(text):
     for line in text.splitlines(keepends=True):
         if line.lstrip().startswith("--"):
             yield line, False
-        else:
-            yield line, True
+            continue
+        for part in re.split(r'("[^"\n]*")', line):
+            yield part, not part.startswith('"')
 
 
 def apply(root):

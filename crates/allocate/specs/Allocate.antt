@@ -5,7 +5,7 @@ use Rattle.blocks.specs.Words.{Words}
 use Rattle.blocks.specs.Bits.{bits_of}
 use Rattle.machine.specs.State.{free, marked}
 use Rattle.tables.specs.Own.{unmarked}
-use Rattle.memory.specs.declared.tables.Tables.{Tables}
+use Rattle.memory.specs.declared.newest.Tables.{Tables}
 use Rattle.memory.specs.declared.status.Status.{Status}
 
 -- the first so many data blocks that are not held

@@ -1,4 +1,6 @@
 // Data blocks taken for new cells, given up with cells that go, and settled by a sync.
+#![tactic(auto)]
+
 ghost use Rattle.std.specs.Prelude.{◌≡◌, ◌+◌, ◌*◌, ◌^◌, ◌<◌, ◌≤◌, length};
 ghost use Rattle.std.specs.List.{AllByRecursion as All};
 ghost use Rattle.blocks.specs.Words.{Words, part};
@@ -10,8 +12,8 @@ ghost use Rattle.memory.specs.Lent.{SameTables, SameStatus};
 ghost use Rattle.allocate.specs.Allocate.{Claimed, Released, HeldOnly, Settled};
 
 use bitmap::{clear_all, mark_all, take_lowest, unmark_all};
+use memory::newest::Tables;
 use memory::status::Status;
-use memory::tables::Tables;
 
 // Takes the lowest free data blocks for a part of a table of cells.
 fn take_part(map: &mut [u64], cells: &mut [u64], at: usize, count: usize)

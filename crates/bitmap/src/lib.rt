@@ -1,4 +1,6 @@
 // Which data blocks are held: maps of bits in words of 64, the lowest bit first.
+#![tactic(auto)]
+
 ghost use Rattle.std.specs.Prelude.{◌≡◌, ◌+◌, ◌*◌, ◌^◌, ◌<◌, ◌≤◌, true, false, length, set, replicate, slice_index_or, slice_set};
 ghost use Rattle.std.specs.List.{AllByRecursion as All, slice_get};
 ghost use Rattle.blocks.specs.Bits.{bits_of, word_bits};

@@ -1,4 +1,6 @@
 // Calls, answers and refusals as the code has them. specs/Meaning.antt says what each stands for in the model.
+#![tactic(auto)]
+
 ghost use Rattle.std.specs.Prelude.{◌≡◌};
 ghost use Rattle.calls.specs.Meaning.{refusalNumber, refusalOf};
 

@@ -6,7 +6,7 @@ ghost use Rattle.calls.specs.Meaning.{call_of};
 ghost use Rattle.check_tests.specs.Board.{limits, small_tree};
 
 use calls::Call;
-use check::check::check;
+use check_calls::check::check;
 use lookup::view::Tree;
 use rows::used::Used;
 use steps::limits::{Limits, Stage};

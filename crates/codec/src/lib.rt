@@ -1,5 +1,7 @@
 // Calls and answers as bytes: the formats are in specs/, and nothing here runs. Each function asks for the theorem that its
 // contract names; crate `decode` reads bytes and crate `encode` writes them by the same definitions.
+#![tactic(auto)]
+
 ghost use Rattle.codec.specs.Promises.{CallsCarried, OnlyCallsRead, GarbledIsNoCall, GarbledAtLongestFront};
 ghost use Rattle.codec.specs.Promises.{CallsToldApart, CallsAreBytes, ReadIsReadable};
 ghost use Rattle.codec.specs.Promises.{RefusalsNumbered, AnswersCarried, OnlyAnswersRead};

@@ -1,5 +1,7 @@
 // Tests of calls and answers as bytes: tables of bytes in hexadecimal, worked out by hand from the format, each read and
 // written. What is proved holds for all bytes; these show that the format is the one that is meant.
+#![tactic(auto)]
+
 #[cfg(test)]
 mod answer_table;
 #[cfg(test)]

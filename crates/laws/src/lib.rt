@@ -1,5 +1,7 @@
 // Laws of the file system, proved of the model: what whoever uses it may count on. Nothing here runs; each function asks for
 // the proof of the law that it is named for, of a file system with all calls and of one with those of the first stage.
+#![tactic(auto)]
+
 ghost use Rattle.model.specs.Promise.{all, thin};
 ghost use Rattle.model.specs.Laws.{NamesOnce, NamedOnce, CellsOnce, HasRoom, TreeKept, FileKept, CopiedWhole, TurnedAway};
 ghost use Rattle.model.specs.Laws.{ReadBack, AllBelow, NotInItself, KindStays, ResizeKeeps, SyncLasts, FileLasts, AllLawful};

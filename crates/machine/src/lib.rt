@@ -1,4 +1,6 @@
 // The program as definitions, and every promise proved of it. Nothing here runs: each function asks for a theorem.
+#![tactic(auto)]
+
 ghost use Rattle.model.specs.Promise.{all, thin, Right, ComesToAnEnd, StaysSmall, LookingDoesNothing, RefusingDoesNothing};
 ghost use Rattle.machine.specs.Layout.{volume_program};
 ghost use Rattle.machine.specs.Bounds.{ActsCounted, ChangesFit, AreasApart, CheckpointsFit, MemoryFits, ReplayFits, Decodes, Loads};

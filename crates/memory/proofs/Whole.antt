@@ -12,7 +12,7 @@ use Rattle.machine.specs.Layout.{bitmap_size, super_words, layout}
 use Rattle.machine.proofs.Fits.{cells_few}
 use Rattle.machine.proofs.Tables.{length-nodes, length-entries, length-sums, cells_are}
 use Rattle.std.proofs.lemmas.Bool.{leb-true}
-use Rattle.memory.specs.declared.tables.Tables.{Tables}
+use Rattle.memory.specs.declared.newest.Tables.{Tables}
 use Rattle.memory.specs.declared.status.Status.{Status}
 use Rattle.memory.specs.Encodes.{Encodes, Lengths, WholeSplits, WholeJoins, LengthsAre}
 

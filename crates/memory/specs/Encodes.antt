@@ -7,7 +7,7 @@ use Rattle.machine.specs.State.{State, own}
 use Rattle.machine.specs.Tables.{node_words, sum_words, entry_words, cell_words}
 use Rattle.machine.specs.Fits.{Carries}
 use Rattle.machine.specs.Layout.{bitmap_size, super_words, head_words, layout}
-use Rattle.memory.specs.declared.tables.Tables.{Tables}
+use Rattle.memory.specs.declared.newest.Tables.{Tables}
 use Rattle.memory.specs.declared.status.Status.{Status}
 
 pub record Encodes (l : Limits) (st : State) (t : Tables) (s : Status) : Type 0 where

@@ -3,7 +3,7 @@ use Rattle.std.specs.Prelude.{◌≡◌}
 use Rattle.tables.specs.Edits as edits
 use Rattle.rows.specs.declared.used.Used.{Used}
 use Rattle.rows.specs.Places.{counts_in}
-use Rattle.memory.specs.declared.tables.Tables.{Tables}
+use Rattle.memory.specs.declared.newest.Tables.{Tables}
 use Rattle.memory.specs.declared.status.Status.{Status}
 
 -- the words of the tables, where so much of them is in use

@@ -1,1 +1,2 @@
 // The model: definitions alone, in specs/. Nothing here runs.
+#![tactic(auto)]

@@ -1,6 +1,9 @@
 // Plays a script and prints what its calls answer: play FILE
+#![tactic(auto)]
+
 use player::{Player, split_line};
 use std::io::Write;
+use std::process::ExitCode;
 use std::{env, fs, io};
 
 // Why the program ends before its script does. It has been told on standard error.
@@ -63,8 +66,16 @@ fn play_all(rt: &HostRuntime, name: &str, text: &[u8]) -> Result<(), Stopped> {
     Ok(())
 }
 
-fn main(rt: HostRuntime) -> Result<(), Stopped> {
-    let name = script_name(&rt)?;
-    let text = read_script(&rt, name.as_str())?;
-    play_all(&rt, name.as_str(), text.as_slice())
+fn play_file(rt: &HostRuntime) -> Result<(), Stopped> {
+    let name = script_name(rt)?;
+    let text = read_script(rt, name.as_str())?;
+    play_all(rt, name.as_str(), text.as_slice())
+}
+
+// Standard error has been told already.
+fn main(rt: HostRuntime) -> ExitCode {
+    match play_file(&rt) {
+        Ok(()) => ExitCode::SUCCESS,
+        Err(_stopped) => ExitCode::FAILURE,
+    }
 }

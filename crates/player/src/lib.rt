@@ -1,4 +1,6 @@
 // Plays a script line by line: takes a line and gives the text to print, or says what is wrong with it.
+#![tactic(auto)]
+
 ghost use Rattle.std.specs.Prelude.{◌≡◌, ◌+◌, ◌<◌, ◌≤◌, true, false, [], ◌∷◌, ◌++◌, length, take, drop, is_ok, if◌then◌else◌, None as Nil, Ok, nat_eq};
 ghost use Rattle.calls.specs.Meaning.{call_of, answer_of};
 ghost use Rattle.codec.specs.CallBytes.{read_call};
@@ -13,7 +15,7 @@ ghost use Rattle.script.specs.Meaning.{line_of};
 use calls::{Answer, Call, Refusal};
 use decode::read_call;
 use lines::printing::print_answer;
-use script::lines::{Line, Unreadable, read_line};
+use script::line::{Line, Unreadable, read_line};
 use std::alloc::{AllocError, Global};
 use std::fmt;
 use words::rest;

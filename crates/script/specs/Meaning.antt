@@ -1,13 +1,13 @@
 -- What the code's lines stand for. Definitions only.
 use Rattle.std.specs.Prelude.{◌≡◌, ℕ, Ok, Err, vec_items, Result}
 use Rattle.model.specs.Calls.{Call, find, make_file, make_dir, remove, rename, list, size, read, write, resize, sync_file, sync_tree}
-use Rattle.script.specs.declared.lines.Asked.{Asked}
-use Rattle.script.specs.declared.lines.Asked.TheVariants.{Find, MakeFile, MakeDir, Remove, Rename, List as ListEntry, Size, Read, Write}
-use Rattle.script.specs.declared.lines.Asked.TheVariants.{Resize, SyncFile, SyncTree}
-use Rattle.script.specs.declared.lines.Line.{Line as CodeLine}
-use Rattle.script.specs.declared.lines.Line.TheVariants.{Nothing, Limits, Call as CallLine, Bytes, Power}
-use Rattle.script.specs.declared.lines.Unreadable.{Unreadable}
-use Rattle.script.specs.declared.lines.Unreadable.TheVariants.{Column, NoMemory}
+use Rattle.script.specs.declared.line.Asked.{Asked}
+use Rattle.script.specs.declared.line.Asked.TheVariants.{Find, MakeFile, MakeDir, Remove, Rename, List as ListEntry, Size, Read, Write}
+use Rattle.script.specs.declared.line.Asked.TheVariants.{Resize, SyncFile, SyncTree}
+use Rattle.script.specs.declared.line.Line.{Line as CodeLine}
+use Rattle.script.specs.declared.line.Line.TheVariants.{Nothing, Limits, Call as CallLine, Bytes, Power}
+use Rattle.script.specs.declared.line.Unreadable.{Unreadable}
+use Rattle.script.specs.declared.line.Unreadable.TheVariants.{Column, NoMemory}
 use Rattle.script.specs.Lines.{Line, nothing, limits, ask, by_bytes, power}
 
 abbrev pub asked_of : Asked → Call

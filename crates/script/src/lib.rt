@@ -1,6 +1,8 @@
 // Scripts: lines of text read. specs/ says what each line is.
+#![tactic(auto)]
+
 pub mod fields;
-pub mod lines;
+pub mod line;
 
 ghost use Rattle.script.specs.Law.{CallsComeBack, CallsToldApart};
 

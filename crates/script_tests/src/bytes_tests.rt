@@ -4,7 +4,7 @@ use decode::read_call;
 use encode::write_call;
 use lines::printing::print_call;
 use player::Player;
-use script::lines::{Line, read_line};
+use script::line::{Line, read_line};
 use std::alloc::Global;
 use std::test::Fail;
 use words::print_word;

@@ -2,7 +2,7 @@
 use crate::line_table::{CALLS, WRONG};
 use calls::{Answer, Refusal};
 use lines::printing::{print_answer, print_call};
-use script::lines::{Line, Unreadable, read_line};
+use script::line::{Line, Unreadable, read_line};
 use std::alloc::Global;
 use std::process::Abort;
 use std::test::Fail;
@@ -57,7 +57,7 @@ fn limits_and_bytes_are_read(rt: HostRuntime) -> Result<(), Fail> {
     let Ok(Line::Bytes(bytes)) = read_line(rt.alloc(), b"bytes \\x0b\\x00") else {
         return Err(Fail::new("no bytes"));
     };
-    assert_eq!(rt; bytes.as_slice(), b"\x0b\x00");
+    assert_eq!(rt; bytes.as_slice(), b"\x0b\x00".as_slice());
     Ok(())
 }
 

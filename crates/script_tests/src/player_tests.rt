@@ -171,10 +171,10 @@ fn calls_are_refused_and_power_goes(rt: HostRuntime) {
 #[test]
 fn a_text_has_lines(rt: HostRuntime) {
     let (line, after) = split_line(b"a\n\nb\n");
-    assert_eq!(rt; line, b"a");
+    assert_eq!(rt; line, b"a".as_slice());
     let (blank, last) = split_line(after);
-    assert_eq!(rt; blank, b"");
+    assert_eq!(rt; blank, b"".as_slice());
     let (line, after) = split_line(last);
-    assert_eq!(rt; line, b"b");
-    assert_eq!(rt; after, b"");
+    assert_eq!(rt; line, b"b".as_slice());
+    assert_eq!(rt; after, b"".as_slice());
 }

@@ -122,7 +122,7 @@ fn a_word_ends_before_a_space(rt: HostRuntime) -> Result<(), Fail> {
     let Ok((read, left)) = word(rt.alloc(), b"ab\\{2} c") else {
         return Err(Fail::new("no word"));
     };
-    assert_eq!(rt; read.as_slice(), b"abb");
-    assert_eq!(rt; left, b" c");
+    assert_eq!(rt; read.as_slice(), b"abb".as_slice());
+    assert_eq!(rt; left, b" c".as_slice());
     Ok(())
 }

@@ -92,7 +92,7 @@ pub record Renames (l : Limits) (t : Tree) (older : ℕ) (c : Call) (r : Renamin
   pub taken : NameFound t r.to r.name.now r.replaced
   pub way : Way l t older r.id (ids_in r.replaced)
 
-pub record SameName (t : Tree) (c : Call) : Type 0 where
+pub record IsSameName (t : Tree) (c : Call) : Type 0 where
   pub from : ℕ
   pub old : Name
   pub to : ℕ
@@ -132,7 +132,7 @@ pub record Writes (t : Tree) (c : Call) (b : ℕ) (x : List ℕ) : Type 0 where
   pub block : b ≡ slice_index (cells (body_of t id)) at
 
 -- a file to have as many places as it has, more, or fewer
-pub record SameSize (t : Tree) (c : Call) : Type 0 where
+pub record IsSameSize (t : Tree) (c : Call) : Type 0 where
   pub id : ℕ
   pub many : ℕ
   pub is : c ≡ calls.resize id many
@@ -163,12 +163,12 @@ Means l T t older held c (Find i) = Finds t c i
 Means l T t older held c (Make k p n) = Makes l T t older c k (place_in p) n.now
 Means l T t older held c (Remove p j i) = Removes l t older c (place_in p) j i
 Means l T t older held c (Rename r) = Renames l t older c r
-Means l T t older held c SameName = SameName t c
+Means l T t older held c SameName = IsSameName t c
 Means l T t older held c (ListStep row) = Lists T t c row
 Means l T t older held c (Size k) = Sizes t c k
 Means l T t older held c (Read b) = Reads t c b
 Means l T t older held c (Write b x) = Writes t c b x.now
-Means l T t older held c SameSize = SameSize t c
+Means l T t older held c SameSize = IsSameSize t c
 Means l T t older held c (Grow p k) = Grows l t older held c (place_in p) k
 Means l T t older held c (Cut p k) = Cuts l t older c (place_in p) k
 Means l T t older held c (SyncFile i) = SyncsFile t c i

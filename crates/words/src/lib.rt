@@ -1,5 +1,7 @@
 // Words and numbers as text: any bytes as a word of printable ASCII, numbers in decimal, read and printed.
 // specs/Words.antt, Numbers.antt and Printed.antt say what they are.
+#![tactic(auto)]
+
 ghost use Rattle.std.specs.Prelude.{◌≡◌, ◌<◌, ◌≤◌, ◌++◌, length, drop, replicate, OnOk, slice_index};
 ghost use Rattle.words.specs.Law.{WordsComeBack, NumbersComeBack, WordsArePrintable};
 ghost use Rattle.words.specs.Numbers.{digit, more, read_number};
@@ -135,7 +137,7 @@ fn hex_letter(v: u8) -> u8
 pub fn print_number(out: &mut Vec<u8>, n: u64) -> Result<(), AllocError>
     ensures { Wrote result out.old out.new (print_number n) }
 {
-    let text = n.to_string(out.allocator())?;
+    let text = n.to_string(*out.allocator())?;
     out.extend_from_slice(text.as_bytes())?;
     Ok(())
 }

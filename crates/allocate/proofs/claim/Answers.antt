@@ -23,24 +23,24 @@ module _ (at n : ℕ) (held cells after : List ℕ) (fits : at + n ≤ length ce
       rw taken (subst (λ k. All (λ x. x < k) (free n (bits_of held) 0)) (length_bits held ∙ ap (λ k. 64 * k) (sym same))
       (free_below n (bits_of held)))
 
-pub mark-part-requires : goal.mark-part-requires
-mark-part-requires c = record {
-  part = omega (arith, c.take-part.auto.cells, c.requires.cells);
+pub mark_part-requires : goal.mark_part-requires
+mark_part-requires c = record {
+  part = omega (arith, c.take_part.auto.cells, c.requires.cells);
   below = below c.args.at c.args.count c.args.status.now.held.now c.args.tables.now.cells.now
-      c.take-part.new.cells c.requires.cells c.requires.enough c.take-part.ensures.taken _ c.requires.fresh;
+      c.take_part.new.cells c.requires.cells c.requires.enough c.take_part.ensures.taken _ c.requires.fresh;
 }
 
-pub mark-part-requires-2 : goal.mark-part-requires-2
-mark-part-requires-2 c = record {
-  part = omega (arith, c.take-part.auto.cells, c.requires.cells);
+pub mark_part-requires-2 : goal.mark_part-requires-2
+mark_part-requires-2 c = record {
+  part = omega (arith, c.take_part.auto.cells, c.requires.cells);
   below = below c.args.at c.args.count c.args.status.now.held.now c.args.tables.now.cells.now
-      c.take-part.new.cells c.requires.cells c.requires.enough c.take-part.ensures.taken _ c.requires.own;
+      c.take_part.new.cells c.requires.cells c.requires.enough c.take_part.ensures.taken _ c.requires.own;
 }
 
 pub returns : goal.returns
 returns c =
     let t = taken c.args.at c.args.count c.args.status.now.held.now c.args.tables.now.cells.now
-    c.take-part.new.cells c.requires.cells c.requires.enough c.take-part.ensures.taken in
+    c.take_part.new.cells c.requires.cells c.requires.enough c.take_part.ensures.taken in
     record {
       tables = record { nodes = refl; sums = refl; entries = refl; cells = refl };
       status = record { head = refl; superblock = refl; held = refl; fresh = refl; own = refl };
@@ -48,13 +48,13 @@ returns c =
         nodes = refl;
         sums = refl;
         entries = refl;
-        cells = c.take-part.ensures.taken;
+        cells = c.take_part.ensures.taken;
         head = refl;
         superblock = refl;
-        held = c.take-part.ensures.bits;
-        fresh = c.mark-part.ensures.bits ∙ ap (λ ks. marked ks (bits_of c.args.status.now.fresh.now)) t;
-        words = (c.take-part.ensures.words, c.mark-part.ensures.words, c.mark-part-2.ensures.words);
-        long = (c.take-part.auto.map, c.mark-part.auto.map, c.mark-part-2.auto.map);
-        own = c.mark-part-2.ensures.bits ∙ ap (λ ks. marked ks (bits_of c.args.status.now.own.now)) t;
+        held = c.take_part.ensures.bits;
+        fresh = c.mark_part.ensures.bits ∙ ap (λ ks. marked ks (bits_of c.args.status.now.fresh.now)) t;
+        words = (c.take_part.ensures.words, c.mark_part.ensures.words, c.mark_part-2.ensures.words);
+        long = (c.take_part.auto.map, c.mark_part.auto.map, c.mark_part-2.auto.map);
+        own = c.mark_part-2.ensures.bits ∙ ap (λ ks. marked ks (bits_of c.args.status.now.own.now)) t;
       };
     }

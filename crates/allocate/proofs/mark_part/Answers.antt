@@ -1,7 +1,7 @@
 use Rattle.std.proofs.Common.{◌≡◌, ℕ, ◌+◌, ◌-◌, arith}
 use Rattle.allocate.proofs.mark_part.Goals as goal
 
-pub mark-all-requires : goal.mark-all-requires
-mark-all-requires c =
+pub mark_all-requires : goal.mark_all-requires
+mark_all-requires c =
     let e : (c.args.at + c.args.count) - c.args.at ≡ c.args.count = omega arith in
     rw e c.requires.below

@@ -2,14 +2,14 @@ use Rattle.std.proofs.Common.{length, ap, arith}
 use Rattle.bitmap.proofs.Shared.{few_in, length_from, shared_end}
 use Rattle.bitmap.proofs.count_shared.Goals as goal
 
-pub overflow-cast-shared : goal.overflow-cast-shared
-overflow-cast-shared c =
+pub overflow_cast-shared : goal.overflow_cast-shared
+overflow_cast-shared c =
     let few = few_in c.args.a.now c.args.b.now c.loop-i.i c.loop-i-test.true c.requires.alike
     (omega arith) (omega arith) in
     omega arith
 
-pub overflow-add-shared : goal.overflow-add-shared
-overflow-add-shared c =
+pub overflow_add-shared : goal.overflow_add-shared
+overflow_add-shared c =
     let few = few_in c.args.a.now c.args.b.now c.loop-i.i c.loop-i-test.true c.requires.alike
     (omega arith) (omega arith) in
     omega arith

@@ -3,15 +3,15 @@ use Rattle.std.specs.List.{slice_get}
 use Rattle.bitmap.proofs.Shared.{few_in, nth_in, nth_past, shared_end}
 use Rattle.bitmap.proofs.nth_shared.Goals as goal
 
-pub overflow-cast-n : goal.overflow-cast-n
-overflow-cast-n c =
+pub overflow_cast-n : goal.overflow_cast-n
+overflow_cast-n c =
     let few = few_in c.args.a.now c.args.b.now c.loop-i.i c.loop-i-test.true c.requires.alike
     (omega arith) (omega arith) in
     omega arith
 
 pub returns-then-left-n : goal.returns-then-left-n
 returns-then-left-n c =
-    ap (λ r. Some (64 * c.loop-i.i + r)) c.nth-set.ensures.place
+    ap (λ r. Some (64 * c.loop-i.i + r)) c.nth_set.ensures.place
     ∙ (sym (nth_in c.args.a.now c.args.b.now c.loop-i.i c.loop-i-test.true c.requires.alike
     (omega arith) (omega arith) c.loop-i.left c.if-left-n.true)
     ∙ c.loop-i.invariant)

@@ -7,8 +7,8 @@ use Rattle.bitmap.proofs.Maps.{length_bits}
 use Rattle.bitmap.proofs.Lowest.{some_clear, marked_step, taken_step, lowest_step, count_step}
 use Rattle.bitmap.proofs.take_lowest.Goals as goal
 
-pub set-bit-requires : goal.set-bit-requires
-set-bit-requires c =
+pub set_bit-requires : goal.set_bit-requires
+set_bit-requires c =
     let l = length_bits c.loop-i.map in
     let low = some_clear (bits_of c.loop-i.map) (omega arith) in
     omega arith
@@ -16,16 +16,16 @@ set-bit-requires c =
 pub loop-i-preserved : goal.loop-i-preserved
 loop-i-preserved c =
     let bs = bits_of c.loop-i.map in
-    let cs = bits_of c.set-bit.new.map in
+    let cs = bits_of c.set_bit.new.map in
     let n = length c.args.out.now in
     let i = c.loop-i.i in
-    let k = c.lowest-from-k.result in
+    let k = c.lowest_from-k.result in
     let m = n - (i + 1) in
     let l = length_bits c.loop-i.map in
     let low : lowest_clear bs < length bs = some_clear bs (omega arith) in
     let left : n - i ≡ suc m = omega arith in
-    let at : k ≡ lowest_clear bs = c.lowest-from-k.ensures in
-    let next = c.set-bit.ensures in
+    let at : k ≡ lowest_clear bs = c.lowest_from-k.ensures in
+    let next = c.set_bit.ensures in
     let rises = lowest_step m k bs cs low at next in
     let fewer = count_step m k bs cs low at next in (
       sym (taken_step m k bs cs low at next c.loop-i.out i (omega arith))

@@ -5,8 +5,8 @@ use Rattle.blocks.specs.Bits.{bits_of}
 use Rattle.tables.specs.Own.{unmarked}
 use Rattle.bitmap.proofs.unmark_all.Goals as goal
 
-pub clear-bit-requires : goal.clear-bit-requires
-clear-bit-requires c =
+pub clear_bit-requires : goal.clear_bit-requires
+clear_bit-requires c =
     let h = All-get_or (λ x. x < 64 * length c.args.map.now) c.args.row.now c.loop-k.k-index 0
     c.loop-k-test.true c.requires in
     omega arith
@@ -14,7 +14,7 @@ clear-bit-requires c =
 pub loop-k-preserved : goal.loop-k-preserved
 unfolding unmarked
 loop-k-preserved c =
-    ap (unmarked (drop (c.loop-k.k-index + 1) c.args.row.now)) c.clear-bit.ensures
+    ap (unmarked (drop (c.loop-k.k-index + 1) c.args.row.now)) c.clear_bit.ensures
     ∙ (sym (at_drop_more (λ t. unmarked t (bits_of c.loop-k.map)) c.args.row.now c.loop-k.k-index 0
     c.loop-k-test.true)
     ∙ c.loop-k.invariant)

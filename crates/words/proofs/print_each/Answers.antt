@@ -4,5 +4,5 @@ use Rattle.words.proofs.print_each.Goals as goal
 
 pub loop-k-preserved : goal.loop-k-preserved
 loop-k-preserved c =
-    each_more c.args.b c.args.n c.loop-k.-k (vec_items c.print_byte.new.out) (vec_items c.loop-k.out)
-    c.loop-k-test.true c.in-ok-print-byte.ensures ∙ c.loop-k.invariant
+    each_more c.args.b c.args.n c.loop-k._k (vec_items c.print_byte.new.out) (vec_items c.loop-k.out)
+    c.loop-k-test.true c.in_ok-print_byte.ensures ∙ c.loop-k.invariant

@@ -9,30 +9,30 @@ use Rattle.tables.proofs.Reaches.{Reach, reach}
 use Rattle.change.proofs.Made.{added_for, made_for}
 use Rattle.change.proofs.names.make.Goals as goal
 
-pub add-node-more-requires : goal.add-node-more-requires
-add-node-more-requires c =
+pub add_node-more-requires : goal.add_node-more-requires
+add_node-more-requires c =
     let b = in_bounds _ _ _ _ c.requires.held.1.holds in
     record {
-      next = c.requires.node-room.1;
-      nodes = c.requires.node-room.0;
-      sums = omega (arith, b.nodes_long, b.sums_long, c.requires.node-room.0);
+      next = c.requires.node_room.1;
+      nodes = c.requires.node_room.0;
+      sums = omega (arith, b.nodes_long, b.sums_long, c.requires.node_room.0);
     }
 
-pub enter-name-requires : goal.enter-name-requires
-enter-name-requires c =
+pub enter_name-requires : goal.enter_name-requires
+enter_name-requires c =
     let cs = c.requires.held.0 in
     let g = c.requires.held.1 in
     let b = in_bounds _ _ _ _ g.holds in
     let w = in_range _ _ _ _ _ _ g.holds g.stands in
-    let e = ap (λ T. with_cells cs (with_entries c.args.entries.now T)) c.add-node-more.ensures in
-    let r = subst Reach (sym e) (reach (added_for g (omega (arith, b.nodes_long, c.requires.node-room.0)) c.args.kind)) in
+    let e = ap (λ T. with_cells cs (with_entries c.args.entries.now T)) c.add_node-more.ensures in
+    let r = subst Reach (sym e) (reach (added_for g (omega (arith, b.nodes_long, c.requires.node_room.0)) c.args.kind)) in
     let un = ap (λ (T : Tables). T.used.nodes) e in
     let ue = ap (λ (T : Tables). T.used.entries) e in
     record {
-      place = (omega (arith, w.row, un), omega (arith, w.dir-entries c.requires.dir, ue));
+      place = (omega (arith, w.row, un), omega (arith, w.dir_entries c.requires.dir, ue));
       nodes = r.nodes;
       sums = (r.sums, r.low);
-      entries = omega (arith, ue, c.requires.entry-room);
+      entries = omega (arith, ue, c.requires.entry_room);
       name = c.requires.name;
     }
 
@@ -40,9 +40,9 @@ pub returns : goal.returns
 returns c = λ cs g.
     let b = in_bounds _ _ _ _ g.holds in
     let row = entry_row (record { name = c.args.name.now; id = c.args.used.next }) in
-    let e = ap (with_cells cs) c.enter-name.ensures
+    let e = ap (with_cells cs) c.enter_name.ensures
     ∙ ap (λ T. entered (place_in c.args.place) row (with_cells cs (with_entries c.args.entries.now T)))
-    c.add-node-more.ensures in
+    c.add_node-more.ensures in
     subst (Holds g.most g.room _) (sym e)
-    (made_for g c.requires.dir (omega (arith, b.nodes_long, c.requires.node-room.0))
-    (omega (arith, b.entries_long, c.requires.entry-room)) c.args.name.now c.args.kind)
+    (made_for g c.requires.dir (omega (arith, b.nodes_long, c.requires.node_room.0))
+    (omega (arith, b.entries_long, c.requires.entry_room)) c.args.name.now c.args.kind)

@@ -16,15 +16,15 @@ leave-fewer-requires c =
     let r = reach g.holds in
     let w = in_range _ _ _ _ _ _ g.holds g.stands in
     record {
-      place = (w.row, w.dir-entries c.requires.dir);
+      place = (w.row, w.dir_entries c.requires.dir);
       index = index_low g c.requires.dir c.requires.given.entry;
       nodes = r.nodes;
       sums = r.sums;
       entries = r.entries;
     }
 
-pub drop-at-requires : goal.drop-at-requires
-drop-at-requires c =
+pub drop_at-requires : goal.drop_at-requires
+drop_at-requires c =
     let g = c.requires.given in
     let e = ap (with_cells c.args.cells.now) c.leave-fewer.ensures in
     let h = left_for g.dir c.requires.dir g.entry e in
@@ -44,6 +44,6 @@ returns c = λ g.
     let e = ap (with_cells c.args.cells.now) c.leave-fewer.ensures in
     let s = stood g.dir c.requires.dir g.entry e g.at in
     let q = place_at c.args.row c.leave-fewer.new.nodes c.leave-fewer.new.sums in
-    let all = ap (with_entries c.leave-fewer.new.entries) c.drop-at.ensures ∙ ap (gone q) e in
+    let all = ap (with_entries c.leave-fewer.new.entries) c.drop_at.ensures ∙ ap (gone q) e in
     subst (Holds g.dir.most g.dir.room _) (sym all)
     (removed_holds g.dir.holds g.dir.stands c.requires.dir g.name c.args.index g.node q g.entry g.empty s)

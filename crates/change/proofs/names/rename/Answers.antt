@@ -17,15 +17,15 @@ leave-fewer-requires c =
     let r = reach g.holds in
     let w = in_range _ _ _ _ _ _ g.holds g.stands in
     record {
-      place = (w.row, w.dir-entries c.requires.dir);
+      place = (w.row, w.dir_entries c.requires.dir);
       index = index_low g c.requires.dir c.requires.given.1.entry;
       nodes = r.nodes;
       sums = r.sums;
       entries = r.entries;
     }
 
-pub enter-at-requires : goal.enter-at-requires
-enter-at-requires c =
+pub enter_at-requires : goal.enter_at-requires
+enter_at-requires c =
     let g = c.requires.given.1 in
     let e = ap (with_cells c.requires.given.0) c.leave-fewer.ensures in
     let h = left_for g.dir c.requires.dir g.entry e in
@@ -37,7 +37,7 @@ enter-at-requires c =
     let ue = ap (λ (T : Tables). T.used.entries) e in
     record {
       row = (w.row, kind_small s);
-      place = w.dir-entries (still_dir _ g.dir.stands g.at.stands g.to_dir s);
+      place = w.dir_entries (still_dir _ g.dir.stands g.at.stands g.to_dir s);
       nodes = r.nodes;
       sums = (r.sums, r.low);
       entries = omega (arith, ue, before.entries, v.dir_entries c.requires.dir, index_low g.dir c.requires.dir g.entry);
@@ -50,7 +50,7 @@ returns c = λ cs g.
     let s = stood g.dir c.requires.dir g.entry e g.at in
     let q = place_at c.args.row c.leave-fewer.new.nodes c.leave-fewer.new.sums in
     let row = entry_row (record { name = c.args.name.now; id = c.args.id }) in
-    let all = ap (with_cells cs) c.enter-at.ensures ∙ ap (entered q row) e in
+    let all = ap (with_cells cs) c.enter_at.ensures ∙ ap (entered q row) e in
     subst (Holds g.dir.most g.dir.room _) (sym all)
     (moved_holds g.whole g.dir.tree _ g.dir.id _ g.name g.to q c.args.name.now c.args.id c.args.index
     g.rest g.dir.holds g.dir.stands c.requires.dir g.entry s

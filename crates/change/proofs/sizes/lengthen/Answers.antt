@@ -11,7 +11,7 @@ grow-requires c =
     let g = c.requires.held.1 in
     let r = reach g.holds in
     let w = in_range _ _ _ _ _ _ g.holds g.stands in
-    record { place = (w.row, w.file-cells c.requires.file); nodes = r.nodes; sums = (r.sums, r.low); cells = c.requires.room }
+    record { place = (w.row, w.file_cells c.requires.file); nodes = r.nodes; sums = (r.sums, r.low); cells = c.requires.room }
 
 pub returns : goal.returns
 returns c = λ es n more g.

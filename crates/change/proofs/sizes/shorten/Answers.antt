@@ -11,7 +11,7 @@ cut-requires c =
     let g = c.requires.held.1 in
     let r = reach g.holds in
     let w = in_range _ _ _ _ _ _ g.holds g.stands in
-    record { place = (w.row, w.file-cells c.requires.file); keep = c.requires.keep; nodes = r.nodes; sums = r.sums; cells = r.cells }
+    record { place = (w.row, w.file_cells c.requires.file); keep = c.requires.keep; nodes = r.nodes; sums = r.sums; cells = r.cells }
 
 pub returns : goal.returns
 returns c = λ es g.

@@ -6,8 +6,8 @@ use Rattle.lookup.proofs.Entries.{entries_inside, short_at}
 use Rattle.check_files.proofs.Reasons.{list_no_dir, list_past, list_done}
 use Rattle.check_files.proofs.files.list.Goals as goal
 
-pub returns-in-default : goal.returns-in-default
-returns-in-default c l t older held h = list_no_dir l t older held c.args.dir c.args.index (c.in-default.ensures l t h)
+pub returns-in_default : goal.returns-in_default
+returns-in_default c l t older held h = list_no_dir l t older held c.args.dir c.args.index (c.in_default.ensures l t h)
 
 pub returns-then-index-place : goal.returns-then-index-place
 returns-then-index-place c l t older held h =
@@ -15,8 +15,8 @@ returns-then-index-place c l t older held h =
     let a = dir_at f.0 f.1 in
     list_past l t older held c.args.dir c.args.index a.dir (omega (arith, a.many))
 
-pub overflow-add-result : goal.overflow-add-result
-overflow-add-result c =
+pub overflow_add-result : goal.overflow_add-result
+overflow_add-result c =
     let h = c.requires.1.1 in
     let f = c.in-Some.ensures c.requires.0 c.requires.1.0 h in
     omega (arith, entries_inside h f.0 f.1)

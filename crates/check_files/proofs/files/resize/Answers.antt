@@ -6,10 +6,10 @@ use Rattle.steps.specs.Stages.{limits_of}
 use Rattle.check_files.proofs.Reasons.{resize_no_file, resize_same, resize_full, resize_late, resize_done}
 use Rattle.check_files.proofs.files.resize.Goals as goal
 
-pub returns-in-default : goal.returns-in-default
-returns-in-default c s t h =
+pub returns-in_default : goal.returns-in_default
+returns-in_default c s t h =
     let l = limits_of s c.args.limits in
-    resize_no_file l t c.args.older c.args.held c.args.id c.args.places (c.in-default.ensures l t h)
+    resize_no_file l t c.args.older c.args.held c.args.id c.args.places (c.in_default.ensures l t h)
 
 pub returns-then-places-count : goal.returns-then-places-count
 returns-then-places-count c s t h =
@@ -20,21 +20,21 @@ returns-then-places-count c s t h =
       record { id = c.args.id; many = c.args.places; is = refl; same = omega (arith, a.many) },
     )
 
-pub returns-then-not-cells-fit : goal.returns-then-not-cells-fit
-returns-then-not-cells-fit c s t h =
+pub returns-then-not-cells_fit : goal.returns-then-not-cells_fit
+returns-then-not-cells_fit c s t h =
     let l = limits_of s c.args.limits in
     let f = c.in-Some.ensures l t h in
     let a = file_at f.0 f.1 in
     resize_full l t c.args.older c.args.held c.args.id c.args.places a.file c.in-Some.place.count a.many
-    c.if-places-count.false (sym c.if-not-cells-fit.ensures)
+    c.if-places-count.false (sym c.if-not-cells_fit.ensures)
 
-pub returns-then-not-may-change : goal.returns-then-not-may-change
-returns-then-not-may-change c s t h =
+pub returns-then-not-may_change : goal.returns-then-not-may_change
+returns-then-not-may_change c s t h =
     let l = limits_of s c.args.limits in
     let f = c.in-Some.ensures l t h in
     let a = file_at f.0 f.1 in
     resize_late l t c.args.older c.args.held c.args.id c.args.places a.file c.in-Some.place.count a.many
-    c.if-places-count.false (sym c.if-not-cells-fit.ensures) (sym c.if-not-may-change.ensures)
+    c.if-places-count.false (sym c.if-not-cells_fit.ensures) (sym c.if-not-may_change.ensures)
 
 pub returns-then-places-count-2 : goal.returns-then-places-count-2
 returns-then-places-count-2 c s t h =
@@ -43,8 +43,8 @@ returns-then-places-count-2 c s t h =
     let a = file_at f.0 f.1 in
     let k = c.in-Some.place.count in
     let n = c.args.places in
-    let r = sym c.if-not-cells-fit.ensures in
-    let o = sym c.if-not-may-change.ensures in
+    let r = sym c.if-not-cells_fit.ensures in
+    let o = sym c.if-not-may_change.ensures in
     let z : n ≡ k + (n - k) = omega arith in
     let room : c.args.held + (n - k) ≤ l.room = leb-true (c.args.held + (n - k)) l.room r in (
       resize_done l t c.args.older c.args.held c.args.id n a.file k a.many c.if-places-count.false r o,
@@ -65,8 +65,8 @@ returns c s t h =
     let a = file_at f.0 f.1 in
     let k = c.in-Some.place.count in
     let n = c.args.places in
-    let r = sym c.if-not-cells-fit.ensures in
-    let o = sym c.if-not-may-change.ensures in
+    let r = sym c.if-not-cells_fit.ensures in
+    let o = sym c.if-not-may_change.ensures in
     let ne : n ≡ k → ⊥ = c.if-places-count.false in (
       resize_done l t c.args.older c.args.held c.args.id n a.file k a.many ne r o,
       record {

@@ -3,8 +3,8 @@ use Rattle.tables.proofs.Bodies.{file_at}
 use Rattle.check_files.proofs.Reasons.{size_no_file, size_done}
 use Rattle.check_files.proofs.files.size.Goals as goal
 
-pub returns-in-default : goal.returns-in-default
-returns-in-default c l t older held h = size_no_file l t older held c.args.id (c.in-default.ensures l t h)
+pub returns-in_default : goal.returns-in_default
+returns-in_default c l t older held h = size_no_file l t older held c.args.id (c.in_default.ensures l t h)
 
 pub returns : goal.returns
 returns c l t older held h =

@@ -5,10 +5,10 @@ use Rattle.lookup.proofs.Places.{read, cells_inside}
 use Rattle.check_files.proofs.Reasons.{read_no_file, read_past, read_done, write_same}
 use Rattle.check_files.proofs.files.write.Goals as goal
 
-pub returns-in-default : goal.returns-in-default
-returns-in-default c l t older held h =
+pub returns-in_default : goal.returns-in_default
+returns-in_default c l t older held h =
     write_same l t older held c.args.id c.args.at c.args.block.now
-    ∙ read_no_file l t older held c.args.id c.args.at (c.in-default.ensures l t h)
+    ∙ read_no_file l t older held c.args.id c.args.at (c.in_default.ensures l t h)
 
 pub returns-then-at-place : goal.returns-then-at-place
 returns-then-at-place c l t older held h =
@@ -17,8 +17,8 @@ returns-then-at-place c l t older held h =
     write_same l t older held c.args.id c.args.at c.args.block.now
     ∙ read_past l t older held c.args.id c.args.at a.file (omega (arith, a.many))
 
-pub block-of-requires : goal.block-of-requires
-block-of-requires c =
+pub block_of-requires : goal.block_of-requires
+block_of-requires c =
     let h = c.requires.1.1 in
     let f = c.in-Some.ensures c.requires.0 c.requires.1.0 h in
     omega (arith, cells_inside h f.0 f.1)
@@ -34,7 +34,7 @@ returns c l t older held h =
         at = c.args.at;
         is = refl;
         below = omega (arith, a.many);
-        block = c.block-of.ensures ∙ (read h).cell c.args.id (place_in c.in-Some.place) c.args.at f.0 f.1
+        block = c.block_of.ensures ∙ (read h).cell c.args.id (place_in c.in-Some.place) c.args.at f.0 f.1
             (omega arith);
       },
     )

@@ -3,7 +3,7 @@ use Rattle.lookup.specs.Found.{ids_in}
 use Rattle.steps.specs.Stages.{limits_of}
 use Rattle.check_names.proofs.Moves.{Clear, free, other, place_self, place_unlike, place_full, place_late, place_done, place_way}
 use Rattle.check_names.proofs.renames.in_place.Goals as goal
-use Rattle.check_names.proofs.renames.in_place.Goals.{in-Some+else-other-id+else-not-alike+else-has-entries, in-default}
+use Rattle.check_names.proofs.renames.in_place.Goals.{in-Some+else-other-id+else-not-alike+else-has_entries, in_default}
 
 pub returns-then-other-id : goal.returns-then-other-id
 returns-then-other-id c s t h =
@@ -19,24 +19,24 @@ returns-then-not-alike c s t h =
     place_unlike l t c.args.older c.args.id (ids_in c.args.replaced) c.in-Some.other (ap ids_in c.in-Some.is)
     (λ q. c.if-other-id.false (sym q)) (sym (c.if-not-alike.ensures l t h))
 
-pub returns-then-has-entries : goal.returns-then-has-entries
-returns-then-has-entries c s t h =
+pub returns-then-has_entries : goal.returns-then-has_entries
+returns-then-has_entries c s t h =
     let l = limits_of s c.args.limits in
     place_full l t c.args.older c.args.id (ids_in c.args.replaced) c.in-Some.other (ap ids_in c.in-Some.is)
-    (λ q. c.if-other-id.false (sym q)) (sym (c.if-not-alike.ensures l t h)) (sym (c.if-has-entries.ensures l t h))
+    (λ q. c.if-other-id.false (sym q)) (sym (c.if-not-alike.ensures l t h)) (sym (c.if-has_entries.ensures l t h))
 
-pub returns-then-not-may-change : goal.returns-then-not-may-change
-returns-then-not-may-change c s t h =
+pub returns-then-not-may_change : goal.returns-then-not-may_change
+returns-then-not-may_change c s t h =
     let l = limits_of s c.args.limits in
     let js = ids_in c.args.replaced in
     let w : Clear t c.args.id js =
     elim c.match-replaced.branch [
-      | in-Some+else-other-id+else-not-alike+else-has-entries w ↦
+      | in-Some+else-other-id+else-not-alike+else-has_entries w ↦
           other w.in-Some.other (ap ids_in w.in-Some.is) (λ q. w.if-other-id.false (sym q))
-          (sym (w.if-not-alike.ensures l t h)) (w.if-has-entries.ensures l t h)
-      | in-default w ↦ free (ap ids_in w.in-default.is)
+          (sym (w.if-not-alike.ensures l t h)) (w.if-has_entries.ensures l t h)
+      | in_default w ↦ free (ap ids_in w.in_default.is)
     ] in
-    place_late l t c.args.older c.args.id js w (sym c.if-not-may-change.ensures)
+    place_late l t c.args.older c.args.id js w (sym c.if-not-may_change.ensures)
 
 pub returns : goal.returns
 returns c s t h =
@@ -44,10 +44,10 @@ returns c s t h =
     let js = ids_in c.args.replaced in
     let w : Clear t c.args.id js =
     elim c.match-replaced.branch [
-      | in-Some+else-other-id+else-not-alike+else-has-entries w ↦
+      | in-Some+else-other-id+else-not-alike+else-has_entries w ↦
           other w.in-Some.other (ap ids_in w.in-Some.is) (λ q. w.if-other-id.false (sym q))
-          (sym (w.if-not-alike.ensures l t h)) (w.if-has-entries.ensures l t h)
-      | in-default w ↦ free (ap ids_in w.in-default.is)
+          (sym (w.if-not-alike.ensures l t h)) (w.if-has_entries.ensures l t h)
+      | in_default w ↦ free (ap ids_in w.in_default.is)
     ] in
-    let o = sym c.if-not-may-change.ensures in
+    let o = sym c.if-not-may_change.ensures in
     (place_done l t c.args.older c.args.id js w o, place_way l t c.args.older c.args.id js w o)

@@ -21,8 +21,8 @@ some b r p l e q =
     let w = some_refusal (get_or b 1 0) r (sym e) in
     rw (eq-eqb (length b) 10 l, w.0, w.1, q)
 
-pub returns-in-default : goal.returns-in-default
-returns-in-default c = none c.args.bytes.now (omega arith) c.in-default.ensures
+pub returns-in_default : goal.returns-in_default
+returns-in_default c = none c.args.bytes.now (omega arith) c.in_default.ensures
 
 pub returns : goal.returns
-returns c = some c.args.bytes.now c.in-Some.refusal _ (omega arith) c.in-Some.ensures c.number-at.ensures
+returns c = some c.args.bytes.now c.in-Some.refusal _ (omega arith) c.in-Some.ensures c.number_at.ensures

@@ -17,9 +17,9 @@ a_write k x y x' y' b t e p q s = rw (e, sym p, sym q, sym s)
 
 pub returns-in-4 : goal.returns-in-4
 returns-in-4 c =
-    a_rename _ _ _ _ _ _ _ _ c.in-4.is c.number-at-in-4.ensures c.number-at-in-4-2.ensures c.rest-in-4.ensures
+    a_rename _ _ _ _ _ _ _ _ c.in-4.is c.number_at-in-4.ensures c.number_at-in-4-2.ensures c.rest-in-4.ensures
     c.renamed.ensures
 
 pub returns-in-8 : goal.returns-in-8
 returns-in-8 c =
-    a_write _ _ _ _ _ _ _ c.in-8.is c.number-at-in-8.ensures c.number-at-in-8-2.ensures c.rest-in-8.ensures
+    a_write _ _ _ _ _ _ _ c.in-8.is c.number_at-in-8.ensures c.number_at-in-8-2.ensures c.rest-in-8.ensures

@@ -4,4 +4,4 @@ use Rattle.decode.proofs.call.make.Goals as goal
 
 pub returns : goal.returns
 unfolding made
-returns c = c.by-kind.ensures
+returns c = c.by_kind.ensures

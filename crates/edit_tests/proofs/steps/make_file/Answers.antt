@@ -32,6 +32,6 @@ make-used-requires c = record {
   );
   dir = refl;
   name = lit≤ tt;
-  node-room = (lit≤ tt, lit< tt);
-  entry-room = lit≤ tt;
+  node_room = (lit≤ tt, lit< tt);
+  entry_room = lit≤ tt;
 }

@@ -11,4 +11,4 @@ returns c =
     put_all (0 ∷ refusalNumber c.args.refusal ∷ le8 c.args.place) c.args.out.now _ 10 (omega arith) (omega arith)
     (put_next (0 ∷ refusalNumber c.args.refusal ∷ []) _ (le8 c.args.place) c.args.out.now _ _ 2
     (c.put_at.ensures ∙ ap (λ n. onto (0 ∷ n ∷ []) c.args.out.now) c.number.ensures)
-    c.to-le-bytes.ensures refl c.put-at-2.ensures)
+    c.to_le_bytes.ensures refl c.put_at-2.ensures)

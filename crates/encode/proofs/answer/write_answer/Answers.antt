@@ -11,10 +11,10 @@ Wrote r after before a = ◌≡◌ {A = Option ℕ × List ℕ} (r, after) (put 
 
 pub returns-in-Refused : goal.returns-in-Refused
 returns-in-Refused c =
-    subst (Wrote c.put-refused.result c.put-refused.new.out c.args.out.now) (sym c.in-Refused.is)
-    c.put-refused.ensures
+    subst (Wrote c.put_refused.result c.put_refused.new.out c.args.out.now) (sym c.in-Refused.is)
+    c.put_refused.ensures
 
 pub returns-in-Entry : goal.returns-in-Entry
 returns-in-Entry c =
-    subst (Wrote c.put-one-in-Entry.result c.put-one-in-Entry.new.out c.args.out.now) (sym c.in-Entry.is)
-    c.put-one-in-Entry.ensures
+    subst (Wrote c.put_one-in-Entry.result c.put_one-in-Entry.new.out c.args.out.now) (sym c.in-Entry.is)
+    c.put_one-in-Entry.ensures

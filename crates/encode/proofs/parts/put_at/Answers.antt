@@ -8,5 +8,5 @@ returns c =
     let out = c.args.out.now in
     let at = c.args.at in
     let end = c.args.at + length c.args.bytes.now in
-    put_part out c.copy-from-slice.new.self at (length c.args.bytes.now)
-    ∙ ap (λ ys. take at out ++ (ys ++ drop end out)) c.copy-from-slice.ensures.after
+    put_part out c.copy_from_slice.new.self at (length c.args.bytes.now)
+    ∙ ap (λ ys. take at out ++ (ys ++ drop end out)) c.copy_from_slice.ensures.after

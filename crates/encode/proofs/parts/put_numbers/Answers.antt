@@ -8,5 +8,5 @@ pub returns : goal.returns
 returns c =
     put_next (c.args.kind ∷ le8 c.args.x) _ (le8 c.args.y) c.args.out.now _ _ 9
     (put_next (c.args.kind ∷ []) _ (le8 c.args.x) c.args.out.now _ _ 1
-    c.put_at.ensures c.to-le-bytes.ensures refl c.put-at-2.ensures)
-    c.to-le-bytes-2.ensures refl c.put-at-3.ensures
+    c.put_at.ensures c.to_le_bytes.ensures refl c.put_at-2.ensures)
+    c.to_le_bytes-2.ensures refl c.put_at-3.ensures

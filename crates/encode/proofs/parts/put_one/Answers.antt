@@ -9,4 +9,4 @@ returns c =
     put_all (c.args.kind ∷ le8 c.args.x ++ c.args.tail.now) c.args.out.now _
     (9 + length c.args.tail.now) (omega arith) (omega arith)
     (put_next (c.args.kind ∷ le8 c.args.x) _ c.args.tail.now c.args.out.now _ _ 9
-    c.put-number.ensures refl refl c.put_at.ensures)
+    c.put_number.ensures refl refl c.put_at.ensures)

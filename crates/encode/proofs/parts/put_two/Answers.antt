@@ -9,4 +9,4 @@ returns c =
     put_all (c.args.kind ∷ le8 c.args.x ++ (le8 c.args.y ++ c.args.tail.now)) c.args.out.now _
     (17 + length c.args.tail.now) (omega arith) (omega arith)
     (put_next (c.args.kind ∷ le8 c.args.x ++ le8 c.args.y) _ c.args.tail.now c.args.out.now _ _ 17
-    c.put-numbers.ensures refl refl c.put_at.ensures)
+    c.put_numbers.ensures refl refl c.put_at.ensures)

@@ -10,7 +10,7 @@ pub loop-k-preserved : goal.loop-k-preserved
 loop-k-preserved c = (
   search (rules, places),
   bytes_more c.args.words.now c.loop-k.bytes _ c.loop-k.k (omega arith) (omega arith) c.loop-k.invariant.1
-      (c.copy-from-slice.ensures.after ∙ c.to-le-bytes.ensures),
+      (c.copy_from_slice.ensures.after ∙ c.to_le_bytes.ensures),
 )
 
 pub returns : goal.returns

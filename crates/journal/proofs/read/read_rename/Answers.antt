@@ -6,11 +6,11 @@ use Rattle.journal.specs.Items.{name_in}
 use Rattle.journal.proofs.ItemsRead.{rename_none, rename_half, rename_cut, rename_some}
 use Rattle.journal.proofs.read.read_rename.Goals as goal
 
-pub returns-in-default : goal.returns-in-default
-returns-in-default c =
+pub returns-in_default : goal.returns-in_default
+returns-in_default c =
     let ws : List ℕ = c.args.words.now in
     record {
-      item = rename_none c.args.first (get_or ws 2 0) ws (c.in-default.ensures.name ∙ ap name_from (take_rest ws 3));
+      item = rename_none c.args.first (get_or ws 2 0) ws (c.in_default.ensures.name ∙ ap name_from (take_rest ws 3));
       size = tt;
     }
 
@@ -23,13 +23,13 @@ returns-then-words-at c =
       size = tt;
     }
 
-pub returns-in-default-read-name : goal.returns-in-default-read-name
-returns-in-default-read-name c =
+pub returns-in_default-read_name : goal.returns-in_default-read_name
+returns-in_default-read_name c =
     let ws : List ℕ = c.args.words.now in
     let s : ℕ = c.in-Some.front.1 in
     record {
       item = rename_half c.args.first (get_or ws 2 0) ws _ s (c.in-Some.ensures.name ∙ ap name_from (take_rest ws 3))
-          (c.in-default-read-name.ensures.name ∙ ap name_from (take_rest ws (3 + s + 1)));
+          (c.in_default-read_name.ensures.name ∙ ap name_from (take_rest ws (3 + s + 1)));
       size = tt;
     }
 
@@ -39,6 +39,6 @@ returns c =
     let s : ℕ = c.in-Some.front.1 in
     record {
       item = rename_some c.args.first (get_or ws 2 0) ws _ s (c.in-Some.ensures.name ∙ ap name_from (take_rest ws 3))
-          _ c.in-Some-read-name.back.1 (c.in-Some-read-name.ensures.name ∙ ap name_from (take_rest ws (3 + s + 1)));
-      size = (omega arith, omega (arith, c.in-Some-read-name.ensures.size.1, ap length (take_rest ws (3 + s + 1)), length-drop (3 + s + 1) ws));
+          _ c.in-Some-read_name.back.1 (c.in-Some-read_name.ensures.name ∙ ap name_from (take_rest ws (3 + s + 1)));
+      size = (omega arith, omega (arith, c.in-Some-read_name.ensures.size.1, ap length (take_rest ws (3 + s + 1)), length-drop (3 + s + 1) ws));
     }

@@ -15,5 +15,5 @@ returns c =
     let l = length_item c.args.first (call_of c.args.call) in
     record {
       fits = sym (le-leb _ 496 (omega arith));
-      words = item_put c.args.superblock.now _ _ c.item-size-size.result (omega arith) c.put-item.ensures;
+      words = item_put c.args.superblock.now _ _ c.item_size-size.result (omega arith) c.put_item.ensures;
     }

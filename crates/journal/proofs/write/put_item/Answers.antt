@@ -12,26 +12,26 @@ Put ws first call = ws ≡ item_words (item_of first call)
 pub returns-in-MakeFile : goal.returns-in-MakeFile
 unfolding call_number field_words
 returns-in-MakeFile c =
-    subst (Put c.put-named.new.out c.args.first) (sym c.in-MakeFile.is) c.put-named.ensures
+    subst (Put c.put_named.new.out c.args.first) (sym c.in-MakeFile.is) c.put_named.ensures
 
 pub returns-in-MakeDir : goal.returns-in-MakeDir
 unfolding call_number field_words
 returns-in-MakeDir c =
-    subst (Put c.put-named-in-MakeDir.new.out c.args.first) (sym c.in-MakeDir.is) c.put-named-in-MakeDir.ensures
+    subst (Put c.put_named-in-MakeDir.new.out c.args.first) (sym c.in-MakeDir.is) c.put_named-in-MakeDir.ensures
 
 pub returns-in-Remove : goal.returns-in-Remove
 unfolding call_number field_words
 returns-in-Remove c =
-    subst (Put c.put-named-in-Remove.new.out c.args.first) (sym c.in-Remove.is) c.put-named-in-Remove.ensures
+    subst (Put c.put_named-in-Remove.new.out c.args.first) (sym c.in-Remove.is) c.put_named-in-Remove.ensures
 
 pub returns-in-Rename : goal.returns-in-Rename
 unfolding call_number field_words
 returns-in-Rename c =
-    subst (Put c.put-rename.new.out c.args.first) (sym c.in-Rename.is) c.put-rename.ensures
+    subst (Put c.put_rename.new.out c.args.first) (sym c.in-Rename.is) c.put_rename.ensures
 
 pub returns-in-Resize : goal.returns-in-Resize
 unfolding call_number field_words
 returns-in-Resize c =
-    subst (Put c.copy-from-slice.new.self c.args.first) (sym c.in-Resize.is)
-    (c.copy-from-slice.ensures.after
+    subst (Put c.copy_from_slice.new.self c.args.first) (sym c.in-Resize.is)
+    (c.copy_from_slice.ensures.after
     ∙ ap (λ b. 9 ∷ b ∷ c.in-Resize.file ∷ c.in-Resize.places ∷ []) c.bit.ensures)

@@ -6,5 +6,5 @@ use Rattle.journal.proofs.write.put_name.Goals as goal
 pub returns : goal.returns
 returns c =
     let k : ℕ = length c.args.out.now - 0 in
-    c.copy-from-slice.ensures.after
+    c.copy_from_slice.ensures.after
     ∙ (ap (take k) c.name_key.ensures ∙ key_front c.args.name.now k (omega arith) c.requires.name)

@@ -4,5 +4,5 @@ use Rattle.lines.proofs.printing.put_block.Goals as goal
 
 pub returns : goal.returns
 returns c =
-    joins _ (codes "block") _ c.in-ok-extend-from-slice.ensures.items
-    c.in-ok-put-word.ensures
+    joins _ (codes "block") _ c.in_ok-extend_from_slice.ensures.items
+    c.in_ok-put_word.ensures

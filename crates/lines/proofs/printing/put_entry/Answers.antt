@@ -5,6 +5,6 @@ use Rattle.lines.proofs.printing.put_entry.Goals as goal
 
 pub returns : goal.returns
 returns c =
-    joins _ (codes "entry") _ c.in-ok-extend-from-slice.ensures.items
-    (joins _ (word_text c.args.name.now) _ c.in-ok-put-word.ensures
-    c.in-ok-put-number.ensures)
+    joins _ (codes "entry") _ c.in_ok-extend_from_slice.ensures.items
+    (joins _ (word_text c.args.name.now) _ c.in_ok-put_word.ensures
+    c.in_ok-put_number.ensures)

@@ -6,6 +6,6 @@ use Rattle.lines.proofs.printing.put_named.Goals as goal
 
 pub returns : goal.returns
 returns c =
-    joins _ (verb_text (Named c.args.verb)) _ c.in-ok-put-verb.ensures
-    (joins _ (number_text c.args.d) _ c.in-ok-put-number.ensures
-    c.in-ok-put-word.ensures)
+    joins _ (verb_text (Named c.args.verb)) _ c.in_ok-put_verb.ensures
+    (joins _ (number_text c.args.d) _ c.in_ok-put_number.ensures
+    c.in_ok-put_word.ensures)

@@ -4,5 +4,5 @@ use Rattle.lines.proofs.printing.put_number.Goals as goal
 
 pub returns : goal.returns
 returns c =
-    joins _ (32 ∷ []) _ c.in-ok-extend-from-slice.ensures.items
-    c.in-ok-print-number.ensures
+    joins _ (32 ∷ []) _ c.in_ok-extend_from_slice.ensures.items
+    c.in_ok-print_number.ensures

@@ -5,5 +5,5 @@ use Rattle.lines.proofs.printing.put_one.Goals as goal
 
 pub returns : goal.returns
 returns c =
-    joins _ (verb_text (Single c.args.verb)) _ c.in-ok-put-verb.ensures
-    c.in-ok-put-number.ensures
+    joins _ (verb_text (Single c.args.verb)) _ c.in_ok-put_verb.ensures
+    c.in_ok-put_number.ensures

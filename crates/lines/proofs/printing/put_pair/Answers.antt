@@ -6,6 +6,6 @@ use Rattle.lines.proofs.printing.put_pair.Goals as goal
 
 pub returns : goal.returns
 returns c =
-    joins _ (verb_text (Paired c.args.verb)) _ c.in-ok-put-verb.ensures
-    (joins _ (number_text c.args.m) _ c.in-ok-put-number.ensures
-    c.in-ok-put-number-2.ensures)
+    joins _ (verb_text (Paired c.args.verb)) _ c.in_ok-put_verb.ensures
+    (joins _ (number_text c.args.m) _ c.in_ok-put_number.ensures
+    c.in_ok-put_number-2.ensures)

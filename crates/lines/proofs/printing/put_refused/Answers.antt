@@ -5,6 +5,6 @@ use Rattle.lines.proofs.printing.put_refused.Goals as goal
 
 pub returns : goal.returns
 returns c =
-    joins _ (codes "refused") _ c.in-ok-extend-from-slice.ensures.items
-    (joins _ (number_text c.args.refusal) _ c.in-ok-put-number.ensures
-    c.in-ok-put-number-2.ensures)
+    joins _ (codes "refused") _ c.in_ok-extend_from_slice.ensures.items
+    (joins _ (number_text c.args.refusal) _ c.in_ok-put_number.ensures
+    c.in_ok-put_number-2.ensures)

@@ -6,8 +6,8 @@ use Rattle.lines.proofs.printing.put_rename.Goals as goal
 
 pub returns : goal.returns
 returns c =
-    joins _ (verb_text Rename) _ c.in-ok-put-verb.ensures
-    (joins _ (number_text c.args.d) _ c.in-ok-put-number.ensures
-    (joins _ (word_text c.args.n.now) _ c.in-ok-put-word.ensures
-    (joins _ (number_text c.args.e) _ c.in-ok-put-number-2.ensures
-    c.in-ok-put-word-2.ensures)))
+    joins _ (verb_text Rename) _ c.in_ok-put_verb.ensures
+    (joins _ (number_text c.args.d) _ c.in_ok-put_number.ensures
+    (joins _ (word_text c.args.n.now) _ c.in_ok-put_word.ensures
+    (joins _ (number_text c.args.e) _ c.in_ok-put_number-2.ensures
+    c.in_ok-put_word-2.ensures)))

@@ -4,5 +4,5 @@ use Rattle.lines.proofs.printing.put_told.Goals as goal
 
 pub returns : goal.returns
 returns c =
-    joins _ (codes "number") _ c.in-ok-extend-from-slice.ensures.items
-    c.in-ok-put-number.ensures
+    joins _ (codes "number") _ c.in_ok-extend_from_slice.ensures.items
+    c.in_ok-put_number.ensures

@@ -6,7 +6,7 @@ use Rattle.lines.proofs.printing.put_write.Goals as goal
 
 pub returns : goal.returns
 returns c =
-    joins _ (verb_text Write) _ c.in-ok-put-verb.ensures
-    (joins _ (number_text c.args.i) _ c.in-ok-put-number.ensures
-    (joins _ (number_text c.args.o) _ c.in-ok-put-number-2.ensures
-    c.in-ok-put-word.ensures))
+    joins _ (verb_text Write) _ c.in_ok-put_verb.ensures
+    (joins _ (number_text c.args.i) _ c.in_ok-put_number.ensures
+    (joins _ (number_text c.args.o) _ c.in_ok-put_number-2.ensures
+    c.in_ok-put_word.ensures))

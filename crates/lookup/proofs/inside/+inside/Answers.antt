@@ -11,16 +11,16 @@ pub returns-then-outer-inner : goal.returns-then-outer-inner
 returns-then-outer-inner t c l u h =
     holds_itself c.args.steps u c.args.outer c.args.inner c.if-outer-inner.true
 
-pub returns-in-default : goal.returns-in-default
-returns-in-default t c l u h =
+pub returns-in_default : goal.returns-in_default
+returns-in_default t c l u h =
     holds_none c.args.steps u c.args.outer c.args.inner c.if-outer-inner.false
-    (no_entries (body_of u c.args.outer) (c.in-default.ensures l u h))
+    (no_entries (body_of u c.args.outer) (c.in_default.ensures l u h))
 
 pub loop-k-init : goal.loop-k-init
 loop-k-init t c l u h = holds_start c.args.steps u c.args.outer c.args.inner c.if-outer-inner.false
 
-pub overflow-add-k : goal.overflow-add-k
-overflow-add-k t c =
+pub overflow_add-k : goal.overflow_add-k
+overflow_add-k t c =
     let h = c.requires.1.1 in
     let f = c.in-Some.ensures c.requires.0 c.requires.1.0 h in
     omega (arith, entries_inside h f.0 f.1)
@@ -31,14 +31,14 @@ returns-then-steps-k t c l u h =
     (omega arith))
     ∙ c.loop-k.invariant l u h
 
-pub overflow-add-place : goal.overflow-add-place
-overflow-add-place t c =
+pub overflow_add-place : goal.overflow_add-place
+overflow_add-place t c =
     let h = c.requires.1.1 in
     let f = c.in-Some.ensures c.requires.0 c.requires.1.0 h in
     omega (arith, entries_inside h f.0 f.1)
 
-pub entry-id-requires : goal.entry-id-requires
-entry-id-requires t c =
+pub entry_id-requires : goal.entry_id-requires
+entry_id-requires t c =
     let h = c.requires.1.1 in
     let f = c.in-Some.ensures c.requires.0 c.requires.1.0 h in
     omega (arith, entries_inside h f.0 f.1)

@@ -4,9 +4,9 @@ use Rattle.lookup.proofs.Down.{no_entries}
 use Rattle.lookup.proofs.Alike.{some_none, some_count}
 use Rattle.lookup.proofs.kinds.has_entries.Goals as goal
 
-pub returns-in-default : goal.returns-in-default
-returns-in-default c l t h =
-    some_none (entries (body_of t c.args.id)) (no_entries (body_of t c.args.id) (c.in-default.ensures l t h))
+pub returns-in_default : goal.returns-in_default
+returns-in_default c l t h =
+    some_none (entries (body_of t c.args.id)) (no_entries (body_of t c.args.id) (c.in_default.ensures l t h))
 
 pub returns : goal.returns
 returns c l t h =

@@ -3,8 +3,8 @@ use Rattle.rows.specs.Places.{kind_number, place_in}
 use Rattle.lookup.proofs.Places.{no_file, not_file}
 use Rattle.lookup.proofs.search.file.Goals as goal
 
-pub returns-in-default : goal.returns-in-default
-returns-in-default c l t h = no_file t c.args.id (c.in-default.ensures l t h)
+pub returns-in_default : goal.returns-in_default
+returns-in_default c l t h = no_file t c.args.id (c.in_default.ensures l t h)
 
 pub returns-in-Dir : goal.returns-in-Dir
 returns-in-Dir c l t h =

@@ -11,10 +11,10 @@ returns-after-rows c =
     ∙ sym (first_none (λ k. same c.args.key.now (entry_key c.args.entries.now k)) c.args.count c.args.first
     (λ i h. c.rows.invariant.0 i (omega arith)))
 
-pub returns-then-same-words : goal.returns-then-same-words
-returns-then-same-words c =
+pub returns-then-same_words : goal.returns-then-same_words
+returns-then-same_words c =
     let at : ℕ = 16 * (c.args.first + c.rows.k) + 1 in
     let nine : at + 9 - at ≡ 9 = omega arith in
     sym (first_found (λ k. same c.args.key.now (entry_key c.args.entries.now k)) c.args.count c.args.first
     c.rows.k c.rows-test.true c.rows.invariant.0
-    (ap (λ n. same c.args.key.now (take n (drop at c.args.entries.now))) (sym nine) ∙ sym c.if-same-words.ensures))
+    (ap (λ n. same c.args.key.now (take n (drop at c.args.entries.now))) (sym nine) ∙ sym c.if-same_words.ensures))

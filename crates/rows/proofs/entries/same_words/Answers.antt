@@ -8,4 +8,4 @@ use Rattle.rows.proofs.entries.same_words.Goals as goal
 pub returns : goal.returns
 unfolding same
 returns c =
-    same_from_decides _ _ (slice_eq-Decides Decides-eqb _ _ _ c.eq.ensures) (compares_Decides same (search rules) _ _)
+    same_from_decides _ _ (slice_eq-Decides Decides-eqb _ _ _ c.eq.ensures) (compares_Decides same (search rules) c.args.a.now c.args.b.now)

@@ -15,5 +15,5 @@ returns c =
     let h5 = le_step 2 n (a + 5) (a + 6) (omega arith) in
     let h6 = le_step 1 n (a + 6) (a + 7) (omega arith) in
     let h7 = le_step 0 n (a + 7) (a + 8) (omega arith) in
-    let r = c.from-le-bytes.ensures in
+    let r = c.from_le_bytes.ensures in
     omega arith

@@ -4,4 +4,4 @@ use Rattle.script.proofs.fields.choices.Given as goal
 
 abbrev pub invariant-loop-k : goal.invariant-loop-k
 invariant-loop-k l =
-    choices (length l.text - l.-k) (vec_items l.all) l.left ≡ choices (length l.text) [] l.text
+    choices (length l.text - l._k) (vec_items l.all) l.left ≡ choices (length l.text) [] l.text

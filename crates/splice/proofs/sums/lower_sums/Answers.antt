@@ -5,6 +5,6 @@ use Rattle.splice.proofs.sums.lower_sums.Goals as goal
 
 pub loop-k-preserved : goal.loop-k-preserved
 loop-k-preserved c =
-    shifted_more (λ x. x - c.args.entries-by) (λ x. x - c.args.cells_by) c.args.rows c.loop-k.k c.args.from-row
-    c.loop-k.sums _ c.loop-k-test.true c.lower-row.ensures
+    shifted_more (λ x. x - c.args.entries_by) (λ x. x - c.args.cells_by) c.args.rows c.loop-k.k c.args.from_row
+    c.loop-k.sums _ c.loop-k-test.true c.lower_row.ensures
     ∙ c.loop-k.invariant

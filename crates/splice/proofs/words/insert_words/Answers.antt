@@ -6,7 +6,7 @@ use Rattle.splice.proofs.words.insert_words.Goals as goal
 
 pub returns : goal.returns
 returns c =
-    c.put-words.ensures
-    ∙ ap (λ ws. put_mid c.args.at (length c.args.words.now) ws c.args.words.now) c.open-words.ensures
+    c.put_words.ensures
+    ∙ ap (λ ws. put_mid c.args.at (length c.args.words.now) ws c.args.words.now) c.open_words.ensures
     ∙ filled c.args.at c.args.used (length c.args.words.now) c.args.table.now _ c.args.words.now
     (omega (arith, c.requires.place, c.requires.room)) (simp (length-take, length-drop) (omega (arith, c.requires.room))) refl

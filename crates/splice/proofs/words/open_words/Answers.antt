@@ -4,4 +4,4 @@ use Rattle.splice.proofs.Splices.{rotated_in}
 use Rattle.splice.proofs.words.open_words.Goals as goal
 
 pub returns : goal.returns
-returns c = rotated_in _ _ _ _ _ _ c.requires.place c.requires.room refl c.rotate-right.ensures.after
+returns c = rotated_in _ _ _ _ _ _ c.requires.place c.requires.room refl c.rotate_right.ensures.after

@@ -5,5 +5,5 @@ use Rattle.splice.proofs.words.remove_words.Goals as goal
 
 pub returns : goal.returns
 returns c =
-    c.clear-words.ensures
-    ∙ rotated_out _ _ _ _ _ _ c.requires.place c.requires.room refl c.rotate-left.ensures.after
+    c.clear_words.ensures
+    ∙ rotated_out _ _ _ _ _ _ c.requires.place c.requires.room refl c.rotate_left.ensures.after

@@ -1,36 +1,36 @@
 use Rattle.std.proofs.Common.{◌&&◌, sym, ap, ◌∙◌}
 use Rattle.model.specs.Calls.{good_name, good_fields}
 use Rattle.calls.specs.Meaning.{call_of}
-use Rattle.check.proofs.check.in_range.Goals as goal
+use Rattle.check_calls.proofs.check.in_range.Goals as goal
 
 pub returns-in-Find : goal.returns-in-Find
 unfolding good_fields
-returns-in-Find c = c.named-well.ensures ∙ sym (ap (λ k. good_fields (call_of k)) c.in-Find.is)
+returns-in-Find c = c.named_well.ensures ∙ sym (ap (λ k. good_fields (call_of k)) c.in-Find.is)
 
 pub returns-in-MakeFile : goal.returns-in-MakeFile
 unfolding good_fields
-returns-in-MakeFile c = c.named-well-in-MakeFile.ensures ∙ sym (ap (λ k. good_fields (call_of k)) c.in-MakeFile.is)
+returns-in-MakeFile c = c.named_well-in-MakeFile.ensures ∙ sym (ap (λ k. good_fields (call_of k)) c.in-MakeFile.is)
 
 pub returns-in-MakeDir : goal.returns-in-MakeDir
 unfolding good_fields
-returns-in-MakeDir c = c.named-well-in-MakeDir.ensures ∙ sym (ap (λ k. good_fields (call_of k)) c.in-MakeDir.is)
+returns-in-MakeDir c = c.named_well-in-MakeDir.ensures ∙ sym (ap (λ k. good_fields (call_of k)) c.in-MakeDir.is)
 
 pub returns-in-Remove : goal.returns-in-Remove
 unfolding good_fields
-returns-in-Remove c = c.named-well-in-Remove.ensures ∙ sym (ap (λ k. good_fields (call_of k)) c.in-Remove.is)
+returns-in-Remove c = c.named_well-in-Remove.ensures ∙ sym (ap (λ k. good_fields (call_of k)) c.in-Remove.is)
 
-pub returns-then-named-well : goal.returns-then-named-well
+pub returns-then-named_well : goal.returns-then-named_well
 unfolding good_fields
-returns-then-named-well c =
-    c.named-well-then-named-well.ensures
-    ∙ (ap (λ b. b && good_name c.in-Rename.name.now) c.if-named-well.ensures
+returns-then-named_well c =
+    c.named_well-then-named_well.ensures
+    ∙ (ap (λ b. b && good_name c.in-Rename.name.now) c.if-named_well.ensures
     ∙ sym (ap (λ k. good_fields (call_of k)) c.in-Rename.is))
 
-pub returns-else-named-well : goal.returns-else-named-well
+pub returns-else-named_well : goal.returns-else-named_well
 unfolding good_fields
-returns-else-named-well c =
-    c.if-named-well.false
-    ∙ (ap (λ b. b && good_name c.in-Rename.name.now) c.if-named-well.ensures
+returns-else-named_well c =
+    c.if-named_well.false
+    ∙ (ap (λ b. b && good_name c.in-Rename.name.now) c.if-named_well.ensures
     ∙ sym (ap (λ k. good_fields (call_of k)) c.in-Rename.is))
 
 pub returns-in-List : goal.returns-in-List

@@ -6,8 +6,8 @@ use Rattle.calls.specs.declared.Call.TheVariants.{Find, MakeFile, MakeDir, Remov
 use Rattle.calls.specs.Meaning.{call_of}
 use Rattle.lookup.specs.Views.{words}
 use Rattle.steps.specs.Stages.{limits_of}
-use Rattle.check.proofs.Asked.{as_called}
-use Rattle.check.proofs.check.ask.Goals as goal
+use Rattle.check_calls.proofs.Asked.{as_called}
+use Rattle.check_calls.proofs.check.ask.Goals as goal
 
 pub find-requires : goal.find-requires
 unfolding good_fields

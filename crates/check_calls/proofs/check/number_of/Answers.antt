@@ -1,7 +1,7 @@
 use Rattle.std.proofs.Common.{sym, ap}
 use Rattle.model.specs.Calls.{call_number}
 use Rattle.calls.specs.Meaning.{call_of}
-use Rattle.check.proofs.check.number_of.Goals as goal
+use Rattle.check_calls.proofs.check.number_of.Goals as goal
 
 pub returns-in-Find : goal.returns-in-Find
 unfolding call_number
