@@ -1,5 +1,5 @@
 -- The part of a table that was written over.
-use Rattle.std.proofs.Common.{◌≡◌, ℕ, ◌+◌, ◌≤◌, List, ◌++◌, length, take, drop, refl, ◌∙◌, arith, length-take, take_at, drop_at}
+use Rattle.std.proofs.Common.{◌≡◌, ℕ, ◌+◌, ◌≤◌, List, ◌++◌, length, take, drop, arith, length-take, take_at, drop_at}
 use borrow.Rule.Slice.PartMut.{put_mid}
 use Rattle.blocks.specs.Words.{part}
 

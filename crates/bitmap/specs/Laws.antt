@@ -1,6 +1,6 @@
 -- LAWS OF MAPS. Taking the lowest clear bit; maps of any number of bits, where those that do not fill the last word are
 -- followed by zeros that nobody sees; and words, which their bits pin. Each is a type whose proof is owed. Definitions only.
-use Rattle.std.specs.Prelude.{◌≡◌, ℕ, suc, ◌+◌, ◌-◌, ◌*◌, ◌<◌, ◌≤◌, Bool, true, false, List, ◌∷◌, ◌++◌, length, set, replicate, slice_index_or, slice_set}
+use Rattle.std.specs.Prelude.{◌≡◌, ℕ, suc, ◌+◌, ◌-◌, ◌*◌, ◌<◌, ◌≤◌, Bool, true, false, List, ◌∷◌, ◌++◌, length, replicate, slice_index_or, slice_set}
 use Rattle.std.specs.List.{AllByRecursion as All}
 use Rattle.blocks.specs.Bits.{bits_of, bits_words}
 use Rattle.blocks.specs.Words.{Words}

@@ -1,5 +1,5 @@
 -- The reason why a call that finds, makes or removes is refused, or that it is not, by what was found in the tree.
-use Rattle.std.proofs.Common.{◌≡◌, ℕ, ◌-◌, true, false, ◌&&◌, ltb, [], ◌∷◌, length, refl, ap₂}
+use Rattle.std.proofs.Common.{◌≡◌, ℕ, true, false, ◌&&◌, ltb, [], ◌∷◌, length, refl, ap₂}
 use Rattle.model.specs.Tree.{some_of, Name, Tree, body_of, is_dir, entries, named}
 use Rattle.model.specs.Calls.{find, remove}
 use Rattle.model.specs.Refusals.{Limits, making, removing, refusal_by}

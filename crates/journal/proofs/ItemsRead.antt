@@ -1,10 +1,10 @@
 -- Items read from words, by the names that are read: each equation of the definitions as the code meets it.
-use Rattle.std.proofs.Common.{◌≡◌, ℕ, ◌+◌, ◌<◌, ◌≤◌, Bool, eqb, List, [], length, get_or, drop, Some, None, Option, sym, refl, ap, ◌∙◌, ap₂, arith}
+use Rattle.std.proofs.Common.{◌≡◌, ℕ, ◌+◌, ◌<◌, ◌≤◌, Bool, List, [], length, get_or, drop, Some, None, Option, sym, ap, ◌∙◌, arith}
 use Rattle.std.proofs.lemmas.List.{drop_all}
-use Rattle.std.proofs.lemmas.Bool.{eq-eqb, ne_eqb, lt-ltb, le-ltb, lt-leb}
+use Rattle.std.proofs.lemmas.Bool.{lt-ltb, lt-leb}
 use Rattle.std.proofs.lemmas.Bool.Decides.{nat_tests}
 use Rattle.model.specs.Tree.{Name}
-use Rattle.model.specs.Calls.{Call, make_file, make_dir, remove, rename}
+use Rattle.model.specs.Calls.{Call, rename}
 use Rattle.machine.specs.State.{Item}
 use Rattle.machine.specs.Journal.{name_from, named_call, named_item, rename_to, rename_item, item_from}
 

@@ -3,7 +3,6 @@ use Rattle.std.proofs.Common.{◌≡◌, ℕ, ◌+◌, ◌<◌, ◌≤◌, true,
 use Rattle.std.proofs.lemmas.Bool.{both_ways, or_right}
 use Rattle.std.proofs.lemmas.Bool.Decides.{nat_tests}
 use Rattle.model.specs.Fs.{is_in, each_once}
-use Rattle.laws.proofs.Entries.{at}
 
 -- how often a number is in a list
 unfoldable pub occ : ℕ → List ℕ → ℕ

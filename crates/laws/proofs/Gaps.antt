@@ -6,7 +6,7 @@ use Rattle.model.specs.Tree.{Name, same, Entry, Node, find_node, is_dir, entries
 use Rattle.model.specs.Tree.{with_body, dir}
 use Rattle.model_facts.proofs.Nodes.{dir_some, find_with, find_with_other, find_without_other}
 use Rattle.model_facts.proofs.Names.{same_is, find_without_name}
-use Rattle.laws.proofs.Entries.{at, called, sum, sum_without, of_name, not_named, none_left, named_self}
+use Rattle.laws.proofs.Entries.{called, sum, sum_without, of_name, not_named, none_left, named_self}
 use Rattle.laws.proofs.Sound.{Sound, found_over, unlinks, drops}
 
 -- a directory after a change of a directory

@@ -16,7 +16,6 @@ use Rattle.laws.proofs.Resizing.{sized_cells, length-sized, sized_old, sized_new
 use Rattle.laws.proofs.Names.{Well}
 use Rattle.laws.proofs.Changes.{grown, fewer, moved_free, moved_over}
 use Rattle.laws.proofs.Steps.{Step, still, changes, wrote, file_synced, sized, synced}
-use Rattle.laws.proofs.Paths.{stays}
 
 pub record Owned (i o c w : ℕ) (ts : List Node) : Type 0 where
   pub low : i < w

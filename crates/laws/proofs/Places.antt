@@ -8,7 +8,6 @@ use Rattle.model.specs.Tree.{Body, Node, find_node, cells, without_node}
 use Rattle.model_facts.proofs.Nodes.{find_without_other}
 use Rattle.laws.proofs.Apart.{Apart}
 use Rattle.laws.proofs.Held.{places, found_cells}
-use Rattle.laws.proofs.Entries.{at}
 use Rattle.laws.proofs.Distinct.{occ}
 use Rattle.laws.proofs.Totals.{total, of_found, total_without}
 

@@ -14,7 +14,6 @@ use Rattle.laws.proofs.Names.{Well}
 use Rattle.laws.proofs.Reach.{well}
 use Rattle.laws.proofs.Renamed.{named_over, kind_over, renamed}
 use Rattle.laws.proofs.Refused.{done_since}
-use Rattle.laws.proofs.Entries.{at}
 
 module _ (l : Limits) (t : Tree) (older i j : ℕ) (js : List ℕ) (ne : i ≡ j → ⊥) (h : in_place l t older i (j ∷ js) ≡ 0) where
   was_empty : entries (body_of t j) ≡ []

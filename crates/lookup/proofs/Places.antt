@@ -8,7 +8,7 @@ use Rattle.tables.specs.Stands.{Stands, LookedUp, Readable, Bounds, Within}
 use Rattle.tables.proofs.Held.{readable}
 use Rattle.tables.proofs.Ranges.{in_bounds, in_range}
 use Rattle.tables.proofs.Reaches.{reach}
-use Rattle.tables.proofs.Bodies.{kind_read, kind_small as place_kind_small, dir_at, file_at}
+use Rattle.tables.proofs.Bodies.{kind_small as place_kind_small, dir_at, file_at}
 use Rattle.lookup.specs.Views.{Sound}
 
 module _ {l : Limits} {T : Tables} {t : Tree} (h : Sound l T t) where

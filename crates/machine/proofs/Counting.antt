@@ -1,5 +1,5 @@
 -- Which data blocks are held, how many they are, and which are free: the bits count what the model counts.
-use Rattle.std.proofs.Common.{◌≡◌, ℕ, zero, suc, ◌+◌, ◌-◌, ◌<◌, ◌≤◌, Bool, true, false, ◌||◌, eqb, ◌⊎◌, List, [], ◌∷◌, ◌++◌, map, length, set, replicate, sym, refl, ap, ◌∙◌, subst, ⊎_elim, zero-le, not-suc-le-zero, zero-add, arith}
+use Rattle.std.proofs.Common.{◌≡◌, ℕ, zero, suc, ◌+◌, ◌<◌, ◌≤◌, Bool, true, false, ◌||◌, eqb, List, [], ◌∷◌, ◌++◌, map, length, set, replicate, sym, refl, ap, ◌∙◌, subst, ⊎_elim, zero-le, not-suc-le-zero, zero-add, arith}
 use Rattle.std.proofs.lemmas.Bool.{eqb-true, eq-eqb, ne_eqb, or_cases, or_left, or_right, both_ways, cases_Bool, cases_eq}
 use Rattle.model.specs.Fs.{is_in, each_once}
 use Rattle.machine.specs.State.{marks, count_set, free, marked}

@@ -1,5 +1,5 @@
 -- Disks: what a block has after an act, a keep or a loss of power; and what may be left of it.
-use Rattle.std.proofs.Common.{◌≡◌, ℕ, zero, suc, ◌+◌, ◌-◌, ◌<◌, ◌⊎◌, List, [], ◌∷◌, ◌++◌, length, get_or, sym, refl, ap, ◌∙◌, ⊎_elim, not-suc-le-zero, zero-add, arith, length-set}
+use Rattle.std.proofs.Common.{◌≡◌, ℕ, zero, suc, ◌+◌, ◌<◌, List, [], ◌∷◌, ◌++◌, length, get_or, sym, refl, ap, ◌∙◌, ⊎_elim, not-suc-le-zero, zero-add, arith, length-set}
 use Rattle.model.specs.Calls.{Block, empty_block}
 use Rattle.model.specs.Fs.{Cell, empty_cell, chosen, written, kept}
 use Rattle.model.specs.World.{Act, put_block, keep_all, Disk, kept_disk, did, did_all, seen}

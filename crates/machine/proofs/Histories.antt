@@ -1,6 +1,6 @@
 -- Induction over everything that can happen: from what is owed of each call, of power and of a new disk, the invariant
 -- stands always; and so the promises follow.
-use Rattle.std.proofs.Common.{◌≡◌, ℕ, suc, ◌-◌, ◌≤◌, Bool, true, false, ◌&&◌, eqb, ltb, ◌⊎◌, List, [], ◌∷◌, map, length, get_or, sym, refl, ap, ◌∙◌, subst, ⊎_elim, zero-le, arith}
+use Rattle.std.proofs.Common.{◌≡◌, ℕ, suc, ◌≤◌, Bool, true, false, ◌&&◌, eqb, ltb, List, [], ◌∷◌, map, length, get_or, sym, refl, ap, ◌∙◌, subst, ⊎_elim, zero-le, arith}
 use mathlib.Core.Path.{subst₃}
 use mathlib.Core.List.{cons≢nil}
 use Rattle.std.proofs.lemmas.Bool.{and_parts, false≢true}

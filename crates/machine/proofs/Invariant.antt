@@ -4,11 +4,11 @@
 -- whatever power may leave of a block of the last synced tree, it may leave of the cell (`Covers`). `Busy` says the same of
 -- a call under way: after any front of its acts, power leaves the state before or after it. `Laws` is what is asked of an
 -- encoding.
-use Rattle.std.proofs.Common.{◌≡◌, ℕ, suc, ◌+◌, ◌-◌, ◌*◌, ◌<◌, ◌≤◌, Bool, true, false, ◌&&◌, eqb, ◌⊎◌, List, [], ◌∷◌, map, length, get_or, take}
+use Rattle.std.proofs.Common.{◌≡◌, ℕ, suc, ◌+◌, ◌*◌, ◌<◌, ◌≤◌, Bool, true, false, ◌&&◌, eqb, ◌⊎◌, List, [], ◌∷◌, map, length, get_or, take}
 use Rattle.model.specs.Tree.{Tree, new_tree, all_cells}
-use Rattle.model.specs.Calls.{Block, empty_block, Call, size, readable, bytes}
+use Rattle.model.specs.Calls.{Block, empty_block, Call, readable, bytes}
 use Rattle.model.specs.Refusals.{Limits, refusal}
-use Rattle.model.specs.Fs.{Cell, Fs, empty_cell, is_in, cells_of, held, answer, after, lost, chosen}
+use Rattle.model.specs.Fs.{Cell, Fs, empty_cell, is_in, cells_of, answer, after, lost, chosen}
 use Rattle.model.specs.World.{Act, Disk, did_all, seen, blocks_for}
 use Rattle.model.specs.Promise.{good_acts, all_below}
 use Rattle.machine.specs.State.{Sized, Item, counts_of, State, push_it, kind, ren, more, next_tree, marks, synced_core, ready, replay}

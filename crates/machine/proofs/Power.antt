@@ -1,5 +1,5 @@
 -- When power goes, what is left of the disk stands for the last synced tree, and a start brings that tree back.
-use Rattle.std.proofs.Common.{◌≡◌, ℕ, suc, ◌+◌, ◌-◌, ◌<◌, Bool, true, false, List, length, get_or, replicate, sym, refl, ap, ◌∙◌, subst, append-nil, zero-le, arith}
+use Rattle.std.proofs.Common.{◌≡◌, ℕ, suc, ◌+◌, ◌<◌, Bool, true, false, List, length, get_or, replicate, sym, refl, ap, ◌∙◌, subst, append-nil, zero-le, arith}
 use lib.ListN.{length-replicate}
 use Rattle.std.proofs.lemmas.Bool.{both_ways}
 use Rattle.model.specs.Tree.{Tree, all_cells}

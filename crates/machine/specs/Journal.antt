@@ -1,6 +1,6 @@
 -- THE JOURNAL AS WORDS. An item is the number of its call; 1 where the tree was synced right before it, and else 0; the
 -- call's numbers, a word each; and each name as its length and as many words as it needs. Definitions only.
-use Rattle.std.specs.Prelude.{ℕ, zero, suc, ◌+◌, ◌-◌, ◌/◌, Bool, cond, not, ◌&&◌, ◌||◌, List, [], ◌∷◌, ◌++◌, length, take, drop, Some, None, Option, ◌==◌, nat_eq, nat_le, nat_lt, slice_index, slice_index_or}
+use Rattle.std.specs.Prelude.{ℕ, zero, suc, ◌+◌, ◌/◌, Bool, cond, not, ◌&&◌, ◌||◌, List, [], ◌∷◌, ◌++◌, length, take, drop, Some, None, Option, ◌==◌, nat_eq, nat_le, nat_lt, slice_index, slice_index_or}
 use Rattle.std.specs.List.{flat_map}
 use Rattle.blocks.specs.Words.{bytes_of, chunks, zeros_after}
 use Rattle.model.specs.Tree.{Name}

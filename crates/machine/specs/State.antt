@@ -1,6 +1,6 @@
 -- THE STATE that the program's memory stands for, and how a call changes it: one step function, for calls and for the
 -- journal's replay. Cells of the newest tree are data block numbers here. Definitions only.
-use Rattle.std.specs.Prelude.{ℕ, zero, suc, ◌+◌, ◌-◌, ◌≤◌, Bool, true, false, cond, ◌&&◌, List, [], ◌∷◌, ◌++◌, map, length, take, set, ◌==◌, slice_index, slice_set}
+use Rattle.std.specs.Prelude.{ℕ, zero, suc, ◌+◌, ◌-◌, ◌≤◌, Bool, true, false, cond, ◌&&◌, List, [], ◌∷◌, ◌++◌, map, length, take, ◌==◌, slice_index, slice_set}
 use Rattle.model.specs.Tree.{some_of, first_of, Body, dir, file, Node, Tree, body_of, entries, cells, named, all_cells, put_body, made}
 use Rattle.model.specs.Tree.{removed, moved}
 use Rattle.model.specs.Calls.{Block, Call, find, make_file, make_dir, remove, rename, list, size, read, write, resize, sync_file}

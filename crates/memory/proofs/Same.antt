@@ -1,5 +1,5 @@
 -- The same slices after one call and after another.
-use Rattle.std.proofs.Common.{refl, ◌∙◌}
+use Rattle.std.proofs.Common.{◌∙◌}
 use Rattle.memory.specs.declared.newest.Tables.{Tables}
 use Rattle.memory.specs.declared.status.Status.{Status}
 use Rattle.memory.specs.Lent.{SameTables, SameStatus}

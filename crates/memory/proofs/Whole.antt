@@ -1,20 +1,17 @@
 -- All words of memory, and the words of each table.
-use Rattle.std.proofs.Common.{◌≡◌, ℕ, ◌*◌, ◌≤◌, List, ◌++◌, length, take, drop, sym, refl, ap, ◌∙◌, arith, take_at, drop_at}
+use Rattle.std.proofs.Common.{◌≡◌, ℕ, ◌*◌, List, ◌++◌, length, take, drop, sym, refl, ap, ◌∙◌, arith, take_at, drop_at}
 use Rattle.blocks.specs.Words.{pad}
 use Rattle.blocks.proofs.Words.{length-pad}
 use Rattle.blocks.proofs.Bits.{length-bits_words}
 use Rattle.model.specs.Refusals.{Limits}
 use Rattle.machine.specs.State.{State, own}
 use Rattle.machine.specs.Tables.{node_words, sum_words, entry_words, cell_words}
-use Rattle.machine.specs.Journal.{journal_words}
 use Rattle.machine.specs.Fits.{Fits, Carries}
 use Rattle.machine.specs.Layout.{bitmap_size, super_words, layout}
 use Rattle.machine.proofs.Fits.{cells_few}
 use Rattle.machine.proofs.Tables.{length-nodes, length-entries, length-sums, cells_are}
 use Rattle.std.proofs.lemmas.Bool.{leb-true}
-use Rattle.memory.specs.declared.newest.Tables.{Tables}
-use Rattle.memory.specs.declared.status.Status.{Status}
-use Rattle.memory.specs.Encodes.{Encodes, Lengths, WholeSplits, WholeJoins, LengthsAre}
+use Rattle.memory.specs.Encodes.{WholeSplits, WholeJoins, LengthsAre}
 
 pub whole_joins : WholeJoins
 whole_joins l st t s e = cc

@@ -1,6 +1,6 @@
 -- A stage that can do no call answers each as the model does.
-use Rattle.std.proofs.Common.{◌≡◌, ℕ, false, refl}
-use Rattle.model.specs.Calls.{Call, find, make_file, make_dir, remove, rename, list, size, read, write, resize, sync_file}
+use Rattle.std.proofs.Common.{refl}
+use Rattle.model.specs.Calls.{find, make_file, make_dir, remove, rename, list, size, read, write, resize, sync_file}
 use Rattle.model.specs.Calls.{sync_tree, garbled, call_number, place}
 use Rattle.player.specs.Played.{AsTheModel}
 

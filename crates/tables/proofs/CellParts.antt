@@ -1,11 +1,11 @@
 -- The cells of a node, from one on, are a part of the table of cells.
-use Rattle.std.proofs.Common.{◌≡◌, ℕ, ◌+◌, ◌-◌, ◌≤◌, List, [], ◌∷◌, ◌++◌, length, take, drop, replicate, sym, refl, ap, ◌∙◌, ap₂, append_assoc, arith, length-drop, take_at, drop_at}
+use Rattle.std.proofs.Common.{◌≡◌, ℕ, ◌+◌, ◌-◌, ◌≤◌, List, ◌∷◌, ◌++◌, length, take, drop, replicate, sym, ap, ◌∙◌, append_assoc, length-drop, take_at, drop_at}
 use lib.Seq.{drop-append-le}
 use Rattle.std.proofs.lemmas.List.{drop-drop}
-use Rattle.blocks.specs.Words.{part, pad}
+use Rattle.blocks.specs.Words.{part}
 use Rattle.blocks.proofs.Joins.{joined_append}
-use Rattle.model.specs.Tree.{Tree, body_of, cells, all_cells}
-use Rattle.machine.specs.Tables.{cells_in, node_cells, cell_words}
+use Rattle.model.specs.Tree.{Tree, body_of, cells}
+use Rattle.machine.specs.Tables.{node_cells, cell_words}
 use Rattle.machine.proofs.Tables.{cells_are}
 use Rattle.tables.specs.Lookup.{Place}
 use Rattle.tables.specs.Edits.{Tables}

@@ -1,6 +1,6 @@
 -- Which data blocks a tree has after its operations: a node made or renamed changes none, and with a node that is removed its own go.
-use Rattle.std.proofs.Common.{◌≡◌, ℕ, suc, false, List, [], ◌∷◌, ◌++◌, ap, ◌∙◌}
-use Rattle.model.specs.Tree.{Name, Entry, Body, dir, Node, Tree, body_of, entries, cells, all_cells, without_name, drop_entry, put_entry}
+use Rattle.std.proofs.Common.{◌≡◌, ℕ, suc, false, [], ◌∷◌, ◌++◌, ap, ◌∙◌}
+use Rattle.model.specs.Tree.{Name, Body, dir, Tree, body_of, entries, cells, all_cells, without_name, drop_entry, put_entry}
 use Rattle.model.specs.Tree.{made, removed}
 use Rattle.model.specs.Refusals.{Limits}
 use Rattle.model.specs.Laws.{cell_twice}

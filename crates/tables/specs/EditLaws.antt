@@ -1,5 +1,5 @@
 -- TABLES THAT HOLD A TREE HOLD IT AFTER A CHANGE, too: each table, and how much of it is in use. Statements of laws.
-use Rattle.std.specs.Prelude.{◌≡◌, ℕ, suc, ◌+◌, ◌-◌, ◌*◌, ◌<◌, ◌≤◌, List, [], ◌∷◌, ◌++◌, length, take}
+use Rattle.std.specs.Prelude.{◌≡◌, ℕ, suc, ◌+◌, ◌*◌, ◌<◌, ◌≤◌, List, [], ◌∷◌, ◌++◌, length, take}
 use Rattle.blocks.specs.Words.{closed}
 use Rattle.model.specs.Tree.{Name, Body, file, Tree, body_of, entries, cells, named, put_body, put_entry, drop_entry, drop_node}
 use Rattle.model.specs.Tree.{made, removed, without_any, moved}

@@ -1,4 +1,4 @@
-use Rattle.std.proofs.Common.{◌≡◌, ◌++◌, length, take, drop}
+use Rattle.std.proofs.Common.{◌≡◌, length, take}
 use Rattle.allocate.specs.Allocate.{HeldOnly}
 use Rattle.memory.specs.Lent.{SameStatus}
 use Rattle.allocate.proofs.hold_own.Given as goal

@@ -1,5 +1,5 @@
 -- Too few words, something after the name's end, or a name.
-use Rattle.std.proofs.Common.{◌≡◌, ◌<◌, get_or, sym, ◌∙◌, arith}
+use Rattle.std.proofs.Common.{◌<◌, get_or, sym, arith}
 use Rattle.journal.proofs.NameWords.{name_cut, name_unclean, name_clean}
 use Rattle.journal.proofs.read.read_name.Goals as goal
 use Rattle.journal.proofs.read.read_name.Goals.{then-words-size-via-then-words-size}

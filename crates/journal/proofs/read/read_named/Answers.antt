@@ -1,5 +1,5 @@
 -- No name, or a name and the call by its number.
-use Rattle.std.proofs.Common.{◌≡◌, ℕ, List, length, get_or, drop, sym, ap, ◌∙◌, arith, length-drop}
+use Rattle.std.proofs.Common.{ℕ, List, length, get_or, drop, ap, ◌∙◌, arith, length-drop}
 use Rattle.std.proofs.lemmas.List.{take_rest}
 use Rattle.machine.specs.Journal.{name_from}
 use Rattle.journal.specs.Items.{name_in}

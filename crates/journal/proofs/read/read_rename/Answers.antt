@@ -1,8 +1,7 @@
 -- No first name, nothing after it, no second name, or both.
-use Rattle.std.proofs.Common.{◌≡◌, ℕ, ◌+◌, List, length, get_or, sym, ap, ◌∙◌, arith, length-drop}
+use Rattle.std.proofs.Common.{ℕ, ◌+◌, List, length, get_or, ap, ◌∙◌, arith, length-drop}
 use Rattle.std.proofs.lemmas.List.{take_rest}
 use Rattle.machine.specs.Journal.{name_from}
-use Rattle.journal.specs.Items.{name_in}
 use Rattle.journal.proofs.ItemsRead.{rename_none, rename_half, rename_cut, rename_some}
 use Rattle.journal.proofs.read.read_rename.Goals as goal
 

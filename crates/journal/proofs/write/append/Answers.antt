@@ -1,5 +1,5 @@
 -- An item has as many words as was counted: it fits or not by that, and its words come where the part begins.
-use Rattle.std.proofs.Common.{◌≡◌, sym, refl, arith}
+use Rattle.std.proofs.Common.{sym, refl, arith}
 use Rattle.std.proofs.lemmas.Bool.{le-leb, lt-leb}
 use Rattle.calls.specs.Meaning.{call_of}
 use Rattle.journal.proofs.ItemWords.{length_item, item_put}

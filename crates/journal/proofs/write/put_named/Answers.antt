@@ -1,5 +1,5 @@
 -- Three words, then the name's.
-use Rattle.std.proofs.Common.{◌≡◌, ℕ, ◌≤◌, List, [], ◌∷◌, ◌++◌, length, drop, ap, ◌∙◌, ap₂, arith, length-append, length-drop}
+use Rattle.std.proofs.Common.{◌≡◌, ℕ, List, [], ◌∷◌, ◌++◌, length, drop, ap, ◌∙◌, ap₂, arith, length-append}
 use Rattle.machine.specs.Journal.{bit_word}
 use Rattle.journal.proofs.ItemWords.{put_rest}
 use Rattle.journal.proofs.write.put_named.Goals as goal

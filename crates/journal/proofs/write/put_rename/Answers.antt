@@ -1,5 +1,5 @@
 -- An item with one name, a word more, and another name.
-use Rattle.std.proofs.Common.{◌≡◌, ℕ, ◌+◌, ◌-◌, ◌≤◌, List, [], ◌∷◌, ◌++◌, length, drop, set, ap, ◌∙◌, ap₂, arith, length-append, length-drop, length-set}
+use Rattle.std.proofs.Common.{◌≡◌, ℕ, ◌+◌, ◌-◌, List, ◌∷◌, ◌++◌, length, drop, ap, ◌∙◌, ap₂, arith, length-append, length-drop, length-set}
 use Rattle.journal.proofs.ItemWords.{length-name, put_two}
 use Rattle.journal.proofs.write.put_rename.Goals as goal
 

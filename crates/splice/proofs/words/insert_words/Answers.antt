@@ -1,5 +1,5 @@
 -- The room that was made, with the words written over it, is the table opened there for them.
-use Rattle.std.proofs.Common.{length, take, drop, refl, ap, ◌∙◌, arith, length-drop, length-take}
+use Rattle.std.proofs.Common.{length, refl, ap, ◌∙◌, arith, length-drop, length-take}
 use borrow.Rule.Slice.PartMut.{put_mid}
 use Rattle.splice.proofs.Splices.{filled}
 use Rattle.splice.proofs.words.insert_words.Goals as goal
