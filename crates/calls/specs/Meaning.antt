@@ -12,20 +12,20 @@ use Rattle.model.specs.Calls.{Call, find, make_file, make_dir, remove, rename, l
 use Rattle.model.specs.Calls.{garbled, Answer, refused, done, number, entry, block}
 
 -- a refusal's number, and the refusal with a number
-abbrev pub refusalNumber : Refusal → ℕ
-refusalNumber NoCall = 1
-refusalNumber OutOfRange = 2
-refusalNumber NoDirectory = 3
-refusalNumber NoFile = 4
-refusalNumber NoEntry = 5
-refusalNumber NameTaken = 6
-refusalNumber InTheWay = 7
-refusalNumber NoRoom = 8
-refusalNumber TooManyOlder = 9
-refusalNumber NoPlace = 10
+abbrev pub refusal_number : Refusal → ℕ
+refusal_number NoCall = 1
+refusal_number OutOfRange = 2
+refusal_number NoDirectory = 3
+refusal_number NoFile = 4
+refusal_number NoEntry = 5
+refusal_number NameTaken = 6
+refusal_number InTheWay = 7
+refusal_number NoRoom = 8
+refusal_number TooManyOlder = 9
+refusal_number NoPlace = 10
 
-abbrev pub refusalOf : ℕ → Option Refusal
-refusalOf k =
+abbrev pub refusal_from_number : ℕ → Option Refusal
+refusal_from_number k =
     cond (k == 1) (Some NoCall) (cond (k == 2) (Some OutOfRange) (cond (k == 3) (Some NoDirectory)
     (cond (k == 4) (Some NoFile) (cond (k == 5) (Some NoEntry) (cond (k == 6) (Some NameTaken)
     (cond (k == 7) (Some InTheWay) (cond (k == 8) (Some NoRoom) (cond (k == 9) (Some TooManyOlder)
@@ -47,7 +47,7 @@ call_of SyncTree = sync_tree
 call_of (Garbled n) = garbled n
 
 abbrev pub answer_of : CodeAnswer → Answer
-answer_of (Refused r p) = refused (refusalNumber r) p
+answer_of (Refused r p) = refused (refusal_number r) p
 answer_of Done = done
 answer_of (Number n) = number n
 answer_of (Entry n i) = entry n.now i

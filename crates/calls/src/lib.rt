@@ -2,7 +2,7 @@
 #![tactic(auto)]
 
 ghost use Rattle.std.specs.Prelude.{◌≡◌};
-ghost use Rattle.calls.specs.Meaning.{refusalNumber, refusalOf};
+ghost use Rattle.calls.specs.Meaning.{refusal_number, refusal_from_number};
 
 // A call: directories and files go by their ids, names are bytes.
 #[derive(Clone, Copy)]
@@ -73,7 +73,7 @@ pub enum Answer<'a> {
 impl Refusal {
     // Its number in the list of refusals.
     pub fn number(self) -> u8
-        ensures { result ≡ refusalNumber self }
+        ensures { result ≡ refusal_number self }
     {
         match self {
             Refusal::NoCall => 1,
@@ -91,7 +91,7 @@ impl Refusal {
 
     // The refusal with a number, if there is one.
     pub fn from_number(number: u8) -> Option<Refusal>
-        ensures { result ≡ refusalOf number }
+        ensures { result ≡ refusal_from_number number }
     {
         match number {
             1 => Some(Refusal::NoCall),

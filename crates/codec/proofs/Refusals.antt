@@ -5,11 +5,11 @@ use Rattle.std.proofs.lemmas.Bool.{eq-eqb, ne_eqb, cases_eq, false≢true}
 use Rattle.calls.specs.declared.Refusal.{Refusal}
 use Rattle.calls.specs.declared.Refusal.TheVariants.{NoCall, OutOfRange, NoDirectory, NoFile, NoEntry, NameTaken}
 use Rattle.calls.specs.declared.Refusal.TheVariants.{InTheWay, NoRoom, TooManyOlder, NoPlace}
-use Rattle.calls.specs.Meaning.{refusalNumber, refusalOf}
+use Rattle.calls.specs.Meaning.{refusal_number, refusal_from_number}
 use Rattle.codec.specs.AnswerBytes.{is_some, is_refusal}
 use Rattle.codec.specs.Promises.{RefusalsNumbered}
 
-number_back : (r : Refusal) → refusalOf (refusalNumber r) ≡ Some r
+number_back : (r : Refusal) → refusal_from_number (refusal_number r) ≡ Some r
 number_back NoCall = refl
 number_back OutOfRange = refl
 number_back NoDirectory = refl
@@ -23,18 +23,18 @@ number_back NoPlace = refl
 
 -- one number of the list, and those after it
 or_later :
-    (k : ℕ) (q r : Refusal) (later : Option Refusal) → (later ≡ Some r → refusalNumber r ≡ k) →
-    cond (eqb k (refusalNumber q)) (Some q) later ≡ Some r → refusalNumber r ≡ k
+    (k : ℕ) (q r : Refusal) (later : Option Refusal) → (later ≡ Some r → refusal_number r ≡ k) →
+    cond (eqb k (refusal_number q)) (Some q) later ≡ Some r → refusal_number r ≡ k
 or_later k q r later f e =
-    elim (cases_eq k (refusalNumber q)) [
+    elim (cases_eq k (refusal_number q)) [
       | inl h ↦
-          let s : Some q ≡ Some r = rw (eq-eqb k (refusalNumber q) h) at e in
+          let s : Some q ≡ Some r = rw (eq-eqb k (refusal_number q) h) at e in
           let t : q ≡ r = cc in
-          sym (ap refusalNumber t) ∙ sym h
-      | inr h ↦ f (rw (ne_eqb k (refusalNumber q) h) at e)
+          sym (ap refusal_number t) ∙ sym h
+      | inr h ↦ f (rw (ne_eqb k (refusal_number q) h) at e)
     ]
 
-of_number : (k : ℕ) (r : Refusal) → refusalOf k ≡ Some r → refusalNumber r ≡ k
+of_number : (k : ℕ) (r : Refusal) → refusal_from_number k ≡ Some r → refusal_number r ≡ k
 of_number k r =
     or_later k NoCall r _
     (or_later k OutOfRange r _
@@ -52,16 +52,16 @@ pub numbered : RefusalsNumbered
 numbered = (number_back, of_number)
 
 -- a number with a refusal is one, and one without is none
-pub some_refusal : (k : ℕ) (r : Refusal) → refusalOf k ≡ Some r → (is_refusal k ≡ true) × (refusalNumber r ≡ k)
+pub some_refusal : (k : ℕ) (r : Refusal) → refusal_from_number k ≡ Some r → (is_refusal k ≡ true) × (refusal_number r ≡ k)
 unfolding is_refusal
 some_refusal k r e = (ap is_some e, of_number k r e)
 
-pub no_refusal : (k : ℕ) → refusalOf k ≡ None → is_refusal k ≡ false
+pub no_refusal : (k : ℕ) → refusal_from_number k ≡ None → is_refusal k ≡ false
 unfolding is_refusal
 no_refusal k e = ap is_some e
 
 -- a refusal's number is a byte
-number_byte : (r : Refusal) → refusalNumber r < 256
+number_byte : (r : Refusal) → refusal_number r < 256
 number_byte NoCall = omega arith
 number_byte OutOfRange = omega arith
 number_byte NoDirectory = omega arith
@@ -75,8 +75,8 @@ number_byte NoPlace = omega arith
 
 pub refusal_byte : (k : ℕ) → is_refusal k ≡ true → k < 256
 unfolding is_refusal
-refusal_byte k h = go (refusalOf k) refl h
+refusal_byte k h = go (refusal_from_number k) refl h
   where
-    go : (o : Option Refusal) → refusalOf k ≡ o → is_some o ≡ true → k < 256
+    go : (o : Option Refusal) → refusal_from_number k ≡ o → is_some o ≡ true → k < 256
     go (Some r) e _ = subst (λ n. n < 256) (of_number k r e) (number_byte r)
     go None e t = absurd (false≢true t)

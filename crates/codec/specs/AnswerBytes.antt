@@ -1,7 +1,7 @@
 -- ANSWERS AS BYTES: first the answer's number, then its fields; a name or a block runs to the end. Definitions only.
 use Rattle.std.specs.Prelude.{ℕ, Bool, true, false, cond, ◌&&◌, List, [], ◌∷◌, ◌++◌, length, drop, Some, None, Option, ◌==◌, nat_lt, slice_index}
 use Rattle.model.specs.Calls.{Answer, refused, done, number, entry, block, eight, bytes}
-use Rattle.calls.specs.Meaning.{refusalOf}
+use Rattle.calls.specs.Meaning.{refusal_from_number}
 use Rattle.codec.specs.Numbers.{le8, from_le8}
 
 -- WHICH NUMBERS ARE REFUSALS: those that some refusal has. Only this says so.
@@ -10,7 +10,7 @@ is_some None = false
 is_some (Some x) = true
 
 unfoldable pub is_refusal : ℕ → Bool
-is_refusal r = is_some (refusalOf r)
+is_refusal r = is_some (refusal_from_number r)
 
 -- answers that bytes can carry
 unfoldable pub readable_answer : Answer → Bool

@@ -3,7 +3,7 @@ use Rattle.std.specs.Prelude.{◌≡◌, ℕ, ◌<◌, ◌≤◌, Bool, true, no
 use Rattle.model.specs.Calls.{Call, garbled, call_number, Answer, bytes, eight, readable}
 use Rattle.model.specs.Promise.{Carried}
 use Rattle.calls.specs.declared.Refusal.{Refusal}
-use Rattle.calls.specs.Meaning.{refusalNumber, refusalOf}
+use Rattle.calls.specs.Meaning.{refusal_number, refusal_from_number}
 use Rattle.codec.specs.CallBytes.{call_bytes, read_call}
 use Rattle.codec.specs.AnswerBytes.{readable_answer, answer_bytes, read_answer}
 
@@ -54,8 +54,8 @@ ReadIsReadable = (bs : List ℕ) → bytes bs ≡ true → eight (length bs) ≡
 -- ANSWERS. Each refusal goes by its number: there and back, and back and there
 abbrev pub RefusalsNumbered : Type 0
 RefusalsNumbered =
-    ((r : Refusal) → refusalOf (refusalNumber r) ≡ Some r) ×
-    ((k : ℕ) (r : Refusal) → refusalOf k ≡ Some r → refusalNumber r ≡ k)
+    ((r : Refusal) → refusal_from_number (refusal_number r) ≡ Some r) ×
+    ((k : ℕ) (r : Refusal) → refusal_from_number k ≡ Some r → refusal_number r ≡ k)
 
 -- each answer that bytes can carry is read back from its bytes
 abbrev pub AnswersCarried : Type 0

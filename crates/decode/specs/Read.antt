@@ -4,6 +4,6 @@ use Rattle.model.specs.Calls.{Answer}
 use Rattle.calls.specs.declared.Answer.{Answer as CodeAnswer}
 use Rattle.calls.specs.Meaning.{answer_of}
 
-abbrev pub anyAnswer : Option CodeAnswer → Option Answer
-anyAnswer None = None
-anyAnswer (Some a) = Some (answer_of a)
+abbrev pub any_answer : Option CodeAnswer → Option Answer
+any_answer None = None
+any_answer (Some a) = Some (answer_of a)

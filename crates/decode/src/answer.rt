@@ -1,14 +1,14 @@
 // Reading an answer, if the bytes are one.
 ghost use Rattle.std.specs.Prelude.{◌≡◌};
 ghost use Rattle.codec.specs.AnswerBytes.{read_refused, read_answer};
-ghost use Rattle.decode.specs.Read.{anyAnswer};
+ghost use Rattle.decode.specs.Read.{any_answer};
 
 use crate::parts::{number_at, rest};
 use calls::{Answer, Refusal};
 
 // A refusal's number and its place.
 fn refused(bytes: &[u8]) -> Option<Answer<'_>>
-    ensures { anyAnswer result ≡ read_refused bytes.now }
+    ensures { any_answer result ≡ read_refused bytes.now }
 {
     if bytes.len() != 10 {
         return None;
@@ -21,7 +21,7 @@ fn refused(bytes: &[u8]) -> Option<Answer<'_>>
 
 // The answer that bytes are.
 pub fn read_answer(bytes: &[u8]) -> Option<Answer<'_>>
-    ensures { anyAnswer result ≡ read_answer bytes.now }
+    ensures { any_answer result ≡ read_answer bytes.now }
 {
     if bytes.len() == 0 {
         return None;

@@ -1,6 +1,6 @@
 // Writing an answer.
 ghost use Rattle.std.specs.Prelude.{◌≡◌, ◌∷◌};
-ghost use Rattle.calls.specs.Meaning.{refusalNumber, answer_of};
+ghost use Rattle.calls.specs.Meaning.{refusal_number, answer_of};
 ghost use Rattle.codec.specs.Numbers.{le8};
 ghost use Rattle.codec.specs.AnswerBytes.{answer_bytes};
 ghost use Rattle.encode.specs.Put.{put};
@@ -9,7 +9,7 @@ use crate::parts::{put_at, put_byte, put_one};
 use calls::{Answer, Refusal};
 
 fn put_refused(refusal: Refusal, place: u64, out: &mut [u8]) -> Option<usize>
-    ensures { (result, out.new) ≡ put (0 ∷ refusalNumber refusal ∷ le8 place) out.old }
+    ensures { (result, out.new) ≡ put (0 ∷ refusal_number refusal ∷ le8 place) out.old }
 {
     if out.len() < 10 {
         return None;

@@ -1,6 +1,6 @@
 // The words with which lines begin.
 ghost use Rattle.std.specs.Prelude.{◌≡◌, ◌≤◌, length};
-ghost use Rattle.lines.specs.Verbs.{verb_text, common as commonOf, verb_among, read_verb};
+ghost use Rattle.lines.specs.Verbs.{verb_text, common as common_of, verb_among, read_verb};
 ghost use Rattle.words.specs.Outcome.{Told};
 
 use words::{Unread, rest};
@@ -87,7 +87,7 @@ impl Verb {
 
 // How many bytes both begin with.
 fn common(a: &[u8], b: &[u8]) -> usize
-    ensures value { result ≡ commonOf a.now b.now }
+    ensures value { result ≡ common_of a.now b.now }
     ensures within { result ≤ length b.now }
 {
     let mut i: usize = 0;

@@ -1,7 +1,7 @@
 // The fields of a line, after its verb.
 ghost use Rattle.std.specs.Prelude.{[], length};
-ghost use Rattle.script.specs.Fields.{after as afterByte, ended, number_field, word_field, named_field, one_number as oneNumber};
-ghost use Rattle.script.specs.Fields.{two_numbers, one_word, choice_field, choices as choicesOf};
+ghost use Rattle.script.specs.Fields.{after as after_byte, ended, number_field, word_field, named_field, one_number as one_number};
+ghost use Rattle.script.specs.Fields.{two_numbers, one_word, choice_field, choices as choices_of};
 ghost use Rattle.words.specs.Outcome.{Told};
 
 use std::alloc::Global;
@@ -16,7 +16,7 @@ pub struct Choice {
 
 // What is left after one byte, which has to be this one.
 fn after(byte: u8, text: &[u8]) -> Result<&[u8], Unread>
-    ensures { Told (λ t. t.now) result (afterByte byte text.now) }
+    ensures { Told (λ t. t.now) result (after_byte byte text.now) }
 {
     if text.len() == 0 || text[0] != byte {
         return Err(Unread::Left(text.len()));
@@ -59,7 +59,7 @@ pub(crate) fn next_named(heap: Global, text: &[u8]) -> Result<(u64, Vec<u8>, &[u
 
 // One number, and the end.
 pub(crate) fn one_number(text: &[u8]) -> Result<u64, Unread>
-    ensures { Told (λ n. n) result (oneNumber text.now) }
+    ensures { Told (λ n. n) result (one_number text.now) }
 {
     let (n, text) = next_number(text)?;
     end(text)?;
@@ -96,7 +96,7 @@ fn next_choice(text: &[u8]) -> Result<(Choice, &[u8]), Unread>
 
 // All choices up to the end.
 pub(crate) fn choices(heap: Global, text: &[u8]) -> Result<Vec<Choice>, Unread>
-    ensures { Told (λ v. v.items) result (choicesOf (length text.now) [] text.now) }
+    ensures { Told (λ v. v.items) result (choices_of (length text.now) [] text.now) }
 {
     let mut all = Vec::new(heap);
     let mut left = text;

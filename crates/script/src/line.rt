@@ -1,7 +1,7 @@
 // Lines of a script.
 ghost use Rattle.std.specs.Prelude.{◌≡◌};
 ghost use Rattle.calls.specs.Meaning.{call_of};
-ghost use Rattle.script.specs.Lines.{passed as passedOver, named_call, pair_call, one_call, read_named, read_rename, read_pair};
+ghost use Rattle.script.specs.Lines.{passed as passed_over, named_call, pair_call, one_call, read_named, read_rename, read_pair};
 ghost use Rattle.script.specs.Lines.{read_one, read_write, read_limits, read_power, read_fields, read_whole, read_line};
 ghost use Rattle.script.specs.Meaning.{asked_of, line_of, LineTold};
 ghost use Rattle.words.specs.Outcome.{Told};
@@ -186,7 +186,7 @@ fn read_fields(heap: Global, verb: Verb, text: &[u8]) -> Result<Line, Unread>
 
 // Is the line blank or a remark?
 fn passed(line: &[u8]) -> bool
-    ensures { result ≡ passedOver line.now }
+    ensures { result ≡ passed_over line.now }
 {
     line.len() == 0 || line[0] == b'#'
 }

@@ -11,7 +11,7 @@ use Rattle.tables.specs.Lookup.{Place}
 use Rattle.tables.specs.Edits.{Tables}
 use Rattle.tables.specs.Stands.{Stands, EntryStands}
 use Rattle.calls.specs.declared.Refusal.{Refusal}
-use Rattle.calls.specs.Meaning.{refusalNumber}
+use Rattle.calls.specs.Meaning.{refusal_number}
 use Rattle.rows.specs.declared.nodes.Kind.{Kind}
 use Rattle.rows.specs.declared.nodes.Kind.TheVariants.{Dir, File}
 use Rattle.rows.specs.Places.{place_in}
@@ -71,7 +71,7 @@ pub record Way (l : Limits) (t : Tree) (older i : ℕ) (js : List ℕ) : Type 0 
   pub empty : (j : ℕ) → js ≡ j ∷ [] → entries (body_of t j) ≡ []
 
 abbrev pub InPlaceTells : Limits → Tree → ℕ → ℕ → List ℕ → Result Bool Refusal → Type 0
-InPlaceTells l t older i js (Err e) = in_place l t older i js ≡ refusalNumber e
+InPlaceTells l t older i js (Err e) = in_place l t older i js ≡ refusal_number e
 InPlaceTells l t older i js (Ok true) = (in_place l t older i js ≡ 0) × (js ≡ i ∷ [])
 InPlaceTells l t older i js (Ok false) = (in_place l t older i js ≡ 0) × Way l t older i js
 
@@ -176,10 +176,10 @@ Means l T t older held c SyncTree = c ≡ calls.sync_tree
 
 -- what a check tells of a call whose fields are in range: the reason why it is refused, or the step
 abbrev pub Tells : Limits → Tables → Tree → ℕ → ℕ → Call → Result Step Refusal → Type 0
-Tells l T t older held c (Err e) = refusal_by l t older held c ≡ refusalNumber e
+Tells l T t older held c (Err e) = refusal_by l t older held c ≡ refusal_number e
 Tells l T t older held c (Ok s) = (refusal_by l t older held c ≡ 0) × Means l T t older held c s
 
 -- and of any call
 abbrev pub TellsAll : Limits → Tables → Tree → ℕ → ℕ → Call → Result Step Refusal → Type 0
-TellsAll l T t older held c (Err e) = refusal l t older held c ≡ refusalNumber e
+TellsAll l T t older held c (Err e) = refusal l t older held c ≡ refusal_number e
 TellsAll l T t older held c (Ok s) = (refusal l t older held c ≡ 0) × Means l T t older held c s

@@ -52,34 +52,34 @@ next (Open x) b = cond (digit b) (Some (Count x (b - 48))) None
 next (Count x n) b = cond (digit b) (counted x (more n b)) (cond (b == 125 && not (n == 0)) (Some (Repeated x n)) None)
 
 -- the byte that is added where a state is come to, and how many times
-abbrev pub addedByte : Reading → ℕ
-addedByte Begun = 0
-addedByte Empty = 0
-addedByte (Byte x) = x
-addedByte (Repeated x n) = x
-addedByte EscapeFirst = 0
-addedByte (EscapeByte x) = 0
-addedByte EscapeLast = 0
-addedByte High = 0
-addedByte (Low h) = 0
-addedByte (Open x) = 0
-addedByte (Count x n) = 0
+abbrev pub added_byte : Reading → ℕ
+added_byte Begun = 0
+added_byte Empty = 0
+added_byte (Byte x) = x
+added_byte (Repeated x n) = x
+added_byte EscapeFirst = 0
+added_byte (EscapeByte x) = 0
+added_byte EscapeLast = 0
+added_byte High = 0
+added_byte (Low h) = 0
+added_byte (Open x) = 0
+added_byte (Count x n) = 0
 
-abbrev pub addedTimes : Reading → ℕ
-addedTimes Begun = 0
-addedTimes Empty = 0
-addedTimes (Byte x) = 1
-addedTimes (Repeated x n) = n - 1
-addedTimes EscapeFirst = 0
-addedTimes (EscapeByte x) = 0
-addedTimes EscapeLast = 0
-addedTimes High = 0
-addedTimes (Low h) = 0
-addedTimes (Open x) = 0
-addedTimes (Count x n) = 0
+abbrev pub added_times : Reading → ℕ
+added_times Begun = 0
+added_times Empty = 0
+added_times (Byte x) = 1
+added_times (Repeated x n) = n - 1
+added_times EscapeFirst = 0
+added_times (EscapeByte x) = 0
+added_times EscapeLast = 0
+added_times High = 0
+added_times (Low h) = 0
+added_times (Open x) = 0
+added_times (Count x n) = 0
 
 abbrev pub added : Reading → List ℕ
-added s = replicate (addedTimes s) (addedByte s)
+added s = replicate (added_times s) (added_byte s)
 
 -- may the word end here?
 abbrev pub whole : Reading → Bool

@@ -1,6 +1,6 @@
 // The states through which a word is read, byte by byte.
 ghost use Rattle.std.specs.Prelude.{◌≡◌, ◌<◌, IfSome};
-ghost use Rattle.words.specs.Words.{plain, hex_value, begin, escaped as escapedOf, next as next_of, addedByte, addedTimes, whole};
+ghost use Rattle.words.specs.Words.{plain, hex_value, begin, escaped as escaped_of, next as next_of, added_byte, added_times, whole};
 ghost use Rattle.words.specs.declared.reading.Reading.TheVariants.{Count};
 
 use crate::{is_digit, one_more};
@@ -65,7 +65,7 @@ fn first(b: u8, escape: Reading) -> Option<Reading>
 
 // After `\`, where it may only go on with `x`.
 fn escaped(b: u8) -> Option<Reading>
-    ensures { result ≡ escapedOf b }
+    ensures { result ≡ escaped_of b }
 {
     if b == b'x' { Some(Reading::High) } else { None }
 }
@@ -115,8 +115,8 @@ impl Reading {
 
     // The byte that is added where the state is come to, and how many times.
     pub(crate) fn added(self) -> (u8, u64)
-        ensures byte { result.0 ≡ addedByte self }
-        ensures times { result.1 ≡ addedTimes self }
+        ensures byte { result.0 ≡ added_byte self }
+        ensures times { result.1 ≡ added_times self }
     {
         match self {
             Reading::Byte(x) => (x, 1),

@@ -1,6 +1,6 @@
 use Rattle.std.proofs.Common.{◌+◌, ◌++◌, drop, replicate, Ok, Err, vec_items, sym, ap, ◌∙◌, arith, length-drop}
 use Rattle.std.proofs.lemmas.Bool.{eq-eqb, ne_eqb}
-use Rattle.words.specs.Words.{word_on, addedTimes}
+use Rattle.words.specs.Words.{word_on, added_times}
 use Rattle.words.proofs.Letters.{step_at, stop_at, end_at, all_at, closed, unended}
 use Rattle.words.proofs.Outcomes.{no_memory}
 use Rattle.words.proofs.word.Goals as goal
@@ -21,7 +21,7 @@ loop-i-preserved c = (
   ap (λ ys. word_on c.in-Some.next ys (drop (c.loop-i.i + 1) c.args.text.now))
       (c.in_ok-put.ensures
       ∙ ap (λ k. vec_items c.loop-i.bytes ++ replicate k c.added-b.result.0) c.added-b.ensures.times
-      ∙ ap (λ x. vec_items c.loop-i.bytes ++ replicate (addedTimes c.in-Some.next) x) c.added-b.ensures.byte)
+      ∙ ap (λ x. vec_items c.loop-i.bytes ++ replicate (added_times c.in-Some.next) x) c.added-b.ensures.byte)
       ∙ sym (step_at c.loop-i.state (vec_items c.loop-i.bytes) c.args.text.now c.loop-i.i c.in-Some.next
       c.loop-i-test.true (ne_eqb _ _ c.if-text-i-ne32.true) (sym c.in-Some.ensures))
       ∙ c.loop-i.invariant.1,

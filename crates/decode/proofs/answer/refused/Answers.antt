@@ -3,20 +3,20 @@ use Rattle.std.proofs.Common.{◌≡◌, ℕ, List, length, get_or, drop, Some, 
 use Rattle.std.proofs.lemmas.Bool.{eq-eqb}
 use Rattle.model.specs.Calls.{Answer, refused}
 use Rattle.calls.specs.declared.Refusal.{Refusal}
-use Rattle.calls.specs.Meaning.{refusalNumber, refusalOf}
+use Rattle.calls.specs.Meaning.{refusal_number, refusal_from_number}
 use Rattle.codec.specs.Numbers.{from_le8}
 use Rattle.codec.specs.AnswerBytes.{read_refused}
 use Rattle.codec.proofs.Refusals.{some_refusal, no_refusal}
 use Rattle.decode.proofs.answer.refused.Goals as goal
 
 -- ten bytes, and no refusal has the number
-none : (b : List ℕ) → length b ≡ 10 → None ≡ refusalOf (get_or b 1 0) → ◌≡◌ {A = Option Answer} None (read_refused b)
+none : (b : List ℕ) → length b ≡ 10 → None ≡ refusal_from_number (get_or b 1 0) → ◌≡◌ {A = Option Answer} None (read_refused b)
 none b l e = rw (eq-eqb (length b) 10 l, no_refusal (get_or b 1 0) (sym e))
 
 -- ten bytes, and a refusal has it
 some :
-    (b : List ℕ) (r : Refusal) (p : ℕ) → length b ≡ 10 → Some r ≡ refusalOf (get_or b 1 0) → p ≡ from_le8 (drop 2 b) →
-    Some (refused (refusalNumber r) p) ≡ read_refused b
+    (b : List ℕ) (r : Refusal) (p : ℕ) → length b ≡ 10 → Some r ≡ refusal_from_number (get_or b 1 0) → p ≡ from_le8 (drop 2 b) →
+    Some (refused (refusal_number r) p) ≡ read_refused b
 some b r p l e q =
     let w = some_refusal (get_or b 1 0) r (sym e) in
     rw (eq-eqb (length b) 10 l, w.0, w.1, q)
