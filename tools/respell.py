@@ -25,7 +25,7 @@ APART = {"line-of": "first_line", "Same-name": "IsSameName", "Same-size": "IsSam
 # Names that have no dash.
 APART |= {"refusalNumber": "refusal_number", "refusalOf": "refusal_from_number", "anyAnswer": "any_answer"}
 APART |= {"addedByte": "added_byte", "addedTimes": "added_times", "escapedOf": "escaped_of", "commonOf": "common_of"}
-APART |= {"passedOver": "passed_over", "choicesOf": "choices_of", "oneNumber": "one_number", "afterByte": "after_byte"}
+APART |= {"passedOver": "passed_over", "choicesOf": "choices_of", "afterByte": "after_byte"}
 STD = {"length", "take", "drop", "append", "get_or", "getD", "set", "map", "sum", "replicate", "reverse", "filter", "set_bits"}
 
 

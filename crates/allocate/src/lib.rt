@@ -2,7 +2,7 @@
 #![tactic(auto)]
 
 ghost use Rattle.std.specs.Prelude.{◌≡◌, ◌+◌, ◌*◌, ◌^◌, ◌<◌, ◌≤◌, length};
-ghost use Rattle.std.specs.List.{AllByRecursion as All};
+ghost use Rattle.std.specs.List.{AllByRecursion};
 ghost use Rattle.blocks.specs.Words.{Words, part};
 ghost use Rattle.blocks.specs.Bits.{bits_of};
 ghost use borrow.Rule.Slice.PartMut.{put_mid};
@@ -30,7 +30,7 @@ fn take_part(map: &mut [u64], cells: &mut [u64], at: usize, count: usize)
 // Sets the bits of a part of a table of cells.
 fn mark_part(map: &mut [u64], tables: &Tables<'_>, at: usize, count: usize)
     requires part { at + count ≤ length tables.now.cells.now }
-    requires below { All (λ x. x < 64 * length map.old) (part at count tables.now.cells.now) }
+    requires below { AllByRecursion (λ x. x < 64 * length map.old) (part at count tables.now.cells.now) }
     ensures words { Words map.new }
     ensures bits { bits_of map.new ≡ marked (part at count tables.now.cells.now) (bits_of map.old) }
 {
@@ -40,7 +40,7 @@ fn mark_part(map: &mut [u64], tables: &Tables<'_>, at: usize, count: usize)
 // Clears them.
 fn unmark_part(map: &mut [u64], tables: &Tables<'_>, at: usize, count: usize)
     requires part { at + count ≤ length tables.now.cells.now }
-    requires below { All (λ x. x < 64 * length map.old) (part at count tables.now.cells.now) }
+    requires below { AllByRecursion (λ x. x < 64 * length map.old) (part at count tables.now.cells.now) }
     ensures words { Words map.new }
     ensures bits { bits_of map.new ≡ unmarked (part at count tables.now.cells.now) (bits_of map.old) }
 {
@@ -67,7 +67,7 @@ pub fn claim(tables: &mut Tables<'_>, status: &mut Status<'_>, at: usize, count:
 // older tree may come back with them.
 pub fn release(tables: &Tables<'_>, status: &mut Status<'_>, at: usize, count: usize)
     requires cells { at + count ≤ length tables.now.cells.now }
-    requires below { All (λ x. x < 64 * length status.old.own.now) (part at count tables.now.cells.now) }
+    requires below { AllByRecursion (λ x. x < 64 * length status.old.own.now) (part at count tables.now.cells.now) }
     ensures status { SameStatus status.old status.new }
     ensures released { Released (part at count tables.now.cells.now) status.old status.new }
 {

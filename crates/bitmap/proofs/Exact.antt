@@ -1,7 +1,7 @@
 -- Words are pinned by their bits: what a map of `bits_words n bs` answers, and which words stand there after a change.
 use Rattle.std.proofs.Common.{◌≡◌, ℕ, zero, suc, ◌-◌, ◌*◌, ◌/◌, ◌^◌, ◌<◌, Bool, false, List, [], ◌∷◌, ◌++◌, length, get_or, take, drop, set, replicate, sym, refl, ap, ◌∙◌, inl, inr, pow-suc, arith, length-append}
 use lib.ListN.{length-replicate}
-use Rattle.std.specs.List.{AllByRecursion as All}
+use Rattle.std.specs.List.{AllByRecursion}
 use Rattle.std.proofs.lemmas.List.{take_all, take_at, drop_at, drop-replicate, get_or_append_left, set-append_left}
 use Rattle.blocks.specs.Bits.{low_bits, word_bits, bits_of, bits_word, bits_words}
 use Rattle.blocks.specs.Words.{Words}
@@ -117,6 +117,6 @@ changes_exact n bs ws h l f = record {
     pinned : (cs : List Bool) → bits_of ws ≡ cs ++ zs → ws ≡ bits_words n cs
     pinned cs e = words_pinned (64 * n - length bs) ws cs f e ∙ ap (λ k. bits_words k cs) l
 
-    by_marks : (ks : List ℕ) → All (λ x. x < length bs) ks → bits_of ws ≡ marked ks (bits_of (bits_words n bs)) →
+    by_marks : (ks : List ℕ) → AllByRecursion (λ x. x < length bs) ks → bits_of ws ≡ marked ks (bits_of (bits_words n bs)) →
         bits_of ws ≡ marked ks bs ++ zs
     by_marks ks in_range e = e ∙ (ap (marked ks) padded ∙ marked_padded (64 * n - length bs) ks bs in_range)

@@ -1,6 +1,6 @@
 -- Bits followed by zeros: counted, taken, marked and shared they are as without.
 use Rattle.std.proofs.Common.{◌≡◌, ℕ, zero, suc, ◌+◌, ◌<◌, ◌≤◌, Bool, true, false, List, [], ◌∷◌, ◌++◌, length, set, replicate, refl, ap, ◌∙◌, append-nil, arith, length-set}
-use Rattle.std.specs.List.{AllByRecursion as All}
+use Rattle.std.specs.List.{AllByRecursion}
 use Rattle.std.proofs.lemmas.List.{set-append_left}
 use Rattle.machine.specs.State.{count_set, free, marked, both}
 use Rattle.tables.specs.Own.{unmarked}
@@ -26,7 +26,7 @@ free_padded (suc n) m k [] h = absurd (omega arith)
 free_padded (suc n) m k (true ∷ bs) h = free_padded (suc n) m (suc k) bs (omega arith)
 free_padded (suc n) m k (false ∷ bs) h = ap (λ t. k ∷ t) (free_padded n m (suc k) bs (omega arith))
 
-below : (n k d : ℕ) (bs : List Bool) → k + length bs ≤ d → All (λ x. x < d) (free n bs k)
+below : (n k d : ℕ) (bs : List Bool) → k + length bs ≤ d → AllByRecursion (λ x. x < d) (free n bs k)
 unfolding free
 below zero k d bs h = tt
 below (suc n) k d [] h = tt
@@ -36,7 +36,7 @@ below (suc n) k d (false ∷ bs) h = (omega arith, below n (suc k) d bs (omega a
 pub free_below : FreeBelow
 free_below n bs = below n 0 (length bs) bs (omega arith)
 
-marked_before : (d : ℕ) (ks : List ℕ) (bs zs : List Bool) → length bs ≡ d → All (λ x. x < d) ks →
+marked_before : (d : ℕ) (ks : List ℕ) (bs zs : List Bool) → length bs ≡ d → AllByRecursion (λ x. x < d) ks →
     marked ks (bs ++ zs) ≡ marked ks bs ++ zs
 unfolding marked
 marked_before d [] bs zs e h = refl
@@ -44,7 +44,7 @@ marked_before d (k ∷ ks) bs zs e h =
     ap (marked ks) (set-append_left bs zs k true (omega arith))
     ∙ marked_before d ks (set bs k true) zs (length-set bs k true ∙ e) h.1
 
-unmarked_before : (d : ℕ) (ks : List ℕ) (bs zs : List Bool) → length bs ≡ d → All (λ x. x < d) ks →
+unmarked_before : (d : ℕ) (ks : List ℕ) (bs zs : List Bool) → length bs ≡ d → AllByRecursion (λ x. x < d) ks →
     unmarked ks (bs ++ zs) ≡ unmarked ks bs ++ zs
 unfolding unmarked
 unmarked_before d [] bs zs e h = refl

@@ -1,7 +1,7 @@
 -- LAWS OF MAPS. Taking the lowest clear bit; maps of any number of bits, where those that do not fill the last word are
 -- followed by zeros that nobody sees; and words, which their bits pin. Each is a type whose proof is owed. Definitions only.
 use Rattle.std.specs.Prelude.{◌≡◌, ℕ, suc, ◌+◌, ◌-◌, ◌*◌, ◌<◌, ◌≤◌, Bool, true, false, List, ◌∷◌, ◌++◌, length, replicate, slice_index_or, slice_set}
-use Rattle.std.specs.List.{AllByRecursion as All}
+use Rattle.std.specs.List.{AllByRecursion}
 use Rattle.blocks.specs.Bits.{bits_of, bits_words}
 use Rattle.blocks.specs.Words.{Words}
 use Rattle.machine.specs.State.{count_set, free, marked, both}
@@ -29,14 +29,14 @@ abbrev pub FreePadded : Type 0
 FreePadded = (n m k : ℕ) (bs : List Bool) → n + count_set bs ≤ length bs → free n (bs ++ replicate m false) k ≡ free n bs k
 
 abbrev pub FreeBelow : Type 0
-FreeBelow = (n : ℕ) (bs : List Bool) → All (λ x. x < length bs) (free n bs 0)
+FreeBelow = (n : ℕ) (bs : List Bool) → AllByRecursion (λ x. x < length bs) (free n bs 0)
 
 abbrev pub MarkedPadded : Type 0
-MarkedPadded = (m : ℕ) (ks : List ℕ) (bs : List Bool) → All (λ x. x < length bs) ks →
+MarkedPadded = (m : ℕ) (ks : List ℕ) (bs : List Bool) → AllByRecursion (λ x. x < length bs) ks →
     marked ks (bs ++ replicate m false) ≡ marked ks bs ++ replicate m false
 
 abbrev pub UnmarkedPadded : Type 0
-UnmarkedPadded = (m : ℕ) (ks : List ℕ) (bs : List Bool) → All (λ x. x < length bs) ks →
+UnmarkedPadded = (m : ℕ) (ks : List ℕ) (bs : List Bool) → AllByRecursion (λ x. x < length bs) ks →
     unmarked ks (bs ++ replicate m false) ≡ unmarked ks bs ++ replicate m false
 
 abbrev pub BothPadded : Type 0
@@ -63,9 +63,9 @@ pub record OfTheBits (n : ℕ) (bs : List Bool) : Type 0 where
 pub record After (n : ℕ) (bs : List Bool) (ws : List ℕ) : Type 0 where
   pub set_or_cleared : (k : ℕ) (b : Bool) → k < length bs → bits_of ws ≡ slice_set (bits_of (bits_words n bs)) k b →
       ws ≡ bits_words n (slice_set bs k b)
-  pub all_marked : (ks : List ℕ) → All (λ x. x < length bs) ks → bits_of ws ≡ marked ks (bits_of (bits_words n bs)) →
+  pub all_marked : (ks : List ℕ) → AllByRecursion (λ x. x < length bs) ks → bits_of ws ≡ marked ks (bits_of (bits_words n bs)) →
       ws ≡ bits_words n (marked ks bs)
-  pub all_unmarked : (ks : List ℕ) → All (λ x. x < length bs) ks → bits_of ws ≡ unmarked ks (bits_of (bits_words n bs)) →
+  pub all_unmarked : (ks : List ℕ) → AllByRecursion (λ x. x < length bs) ks → bits_of ws ≡ unmarked ks (bits_of (bits_words n bs)) →
       ws ≡ bits_words n (unmarked ks bs)
   pub lowest_taken : (c : ℕ) → c + count_set bs ≤ length bs →
       bits_of ws ≡ marked (free c (bits_of (bits_words n bs)) 0) (bits_of (bits_words n bs)) →

@@ -2,7 +2,7 @@
 #![tactic(auto)]
 
 ghost use Rattle.std.specs.Prelude.{◌≡◌, ◌+◌, ◌*◌, ◌^◌, ◌<◌, ◌≤◌, true, false, length, set, replicate, slice_index_or, slice_set};
-ghost use Rattle.std.specs.List.{AllByRecursion as All, slice_get};
+ghost use Rattle.std.specs.List.{AllByRecursion, slice_get};
 ghost use Rattle.blocks.specs.Bits.{bits_of, word_bits};
 ghost use Rattle.machine.specs.State.{count_set, free, marked, both};
 ghost use Rattle.tables.specs.Own.{unmarked};
@@ -85,7 +85,7 @@ pub fn take_lowest(map: &mut [u64], out: &mut [u64])
 
 // Sets the bit of each number of a row.
 pub fn mark_all(map: &mut [u64], row: &[u64])
-    requires { All (λ x. x < 64 * length map.old) row.now }
+    requires { AllByRecursion (λ x. x < 64 * length map.old) row.now }
     ensures { bits_of map.new ≡ marked row.now (bits_of map.old) }
 {
     for k in row {
@@ -95,7 +95,7 @@ pub fn mark_all(map: &mut [u64], row: &[u64])
 
 // Clears the bit of each number of a row.
 pub fn unmark_all(map: &mut [u64], row: &[u64])
-    requires { All (λ x. x < 64 * length map.old) row.now }
+    requires { AllByRecursion (λ x. x < 64 * length map.old) row.now }
     ensures { bits_of map.new ≡ unmarked row.now (bits_of map.old) }
 {
     for k in row {

@@ -1,6 +1,6 @@
 // The fields of a line, after its verb.
 ghost use Rattle.std.specs.Prelude.{[], length};
-ghost use Rattle.script.specs.Fields.{after as after_byte, ended, number_field, word_field, named_field, one_number as one_number};
+ghost use Rattle.script.specs.Fields.{after as after_byte, ended, number_field, word_field, named_field, one_number};
 ghost use Rattle.script.specs.Fields.{two_numbers, one_word, choice_field, choices as choices_of};
 ghost use Rattle.words.specs.Outcome.{Told};
 

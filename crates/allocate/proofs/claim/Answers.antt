@@ -1,6 +1,6 @@
 use Rattle.std.proofs.Common.{◌≡◌, ℕ, ◌+◌, ◌*◌, ◌<◌, ◌≤◌, List, length, sym, refl, ap, ◌∙◌, subst, arith}
 use borrow.Rule.Slice.PartMut.{put_mid}
-use Rattle.std.specs.List.{AllByRecursion as All}
+use Rattle.std.specs.List.{AllByRecursion}
 use Rattle.blocks.specs.Words.{part}
 use Rattle.blocks.specs.Bits.{bits_of}
 use Rattle.machine.specs.State.{count_set, free, marked}
@@ -18,9 +18,9 @@ module _ (at n : ℕ) (held cells after : List ℕ) (fits : at + n ≤ length ce
       ap (part at n) e
       ∙ part_put at n cells (free n (bits_of held) 0) fits (free-length n (bits_of held) 0 (omega (arith, length_bits held)))
 
-  below : (m : ℕ) → m ≡ length held → All (λ x. x < 64 * m) (part at n after)
+  below : (m : ℕ) → m ≡ length held → AllByRecursion (λ x. x < 64 * m) (part at n after)
   below m same =
-      rw taken (subst (λ k. All (λ x. x < k) (free n (bits_of held) 0)) (length_bits held ∙ ap (λ k. 64 * k) (sym same))
+      rw taken (subst (λ k. AllByRecursion (λ x. x < k) (free n (bits_of held) 0)) (length_bits held ∙ ap (λ k. 64 * k) (sym same))
       (free_below n (bits_of held)))
 
 pub mark_part-requires : goal.mark_part-requires
