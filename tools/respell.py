@@ -22,8 +22,8 @@ HEAD = re.compile(r"^\s*(?:(?:abbrev|unfoldable|pub) )*(?:record|data) ([^\s(){}
 ALIAS = re.compile(r" as ([a-z]+-[\w'-]+)")
 # The first line of a text and a line of code as a script's line would both be line_of; two facts would be called as two steps.
 APART = {"line-of": "first_line", "Same-name": "IsSameName", "Same-size": "IsSameSize"}
-# Names that have no dash.
-APART |= {"refusalNumber": "refusal_number", "refusalOf": "refusal_from_number", "anyAnswer": "any_answer"}
+# Names that have no dash, or had none left.
+APART |= {"refusalNumber": "refusal_number", "refusalOf": "refusal_from_number", "anyAnswer": "any_answer", "Bytes_of": "BytesOf"}
 APART |= {"addedByte": "added_byte", "addedTimes": "added_times", "escapedOf": "escaped_of", "commonOf": "common_of"}
 APART |= {"passedOver": "passed_over", "choicesOf": "choices_of", "afterByte": "after_byte"}
 STD = {"length", "take", "drop", "append", "get_or", "getD", "set", "map", "sum", "replicate", "reverse", "filter", "set_bits"}

@@ -8,7 +8,7 @@ use Rattle.model.specs.Promise.{Carried}
 use Rattle.codec.specs.Numbers.{le8}
 use Rattle.codec.specs.Lengths.{digits, high, value}
 use Rattle.codec.specs.CallBytes.{read_rename, made, read_call}
-use Rattle.codec.specs.Promises.{is_call, Bytes_of, CallsCarried, GarbledIsNoCall, CallsToldApart}
+use Rattle.codec.specs.Promises.{is_call, BytesOf, CallsCarried, GarbledIsNoCall, CallsToldApart}
 use Rattle.codec.proofs.Numbers.{from_le8_back, second_back}
 use Rattle.codec.proofs.Digits.{high_digits, value_digits, none-too-many}
 use Rattle.codec.proofs.Lead.{lead, lead_is}
@@ -93,7 +93,7 @@ called c h = go (eqb (call_number c) 255) h
     go true h = absurd (false≢true h)
     go false h = omega arith
 
-back : (c : Call) (bs : List ℕ) → Bytes_of c bs → read_call bs ≡ c
+back : (c : Call) (bs : List ℕ) → BytesOf c bs → read_call bs ≡ c
 unfolding Carried
 back c bs w = sym (ap read_call w.2) ∙ carried c w.0 (called c w.1)
 

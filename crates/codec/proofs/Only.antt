@@ -6,7 +6,7 @@ use Rattle.model.specs.Calls.{call_number, bytes, eight, readable}
 use Rattle.codec.specs.Numbers.{le8, from_le8}
 use Rattle.codec.specs.Lengths.{digits, high, value}
 use Rattle.codec.specs.CallBytes.{read_rename, numbers_end, open_ended, made, read_call}
-use Rattle.codec.specs.Promises.{is_call, Bytes_of, OnlyCallsRead}
+use Rattle.codec.specs.Promises.{is_call, BytesOf, OnlyCallsRead}
 use Rattle.codec.proofs.Bytes.{tail_bytes, bytes_take, bytes_drop}
 use Rattle.codec.proofs.Numbers.{le8_front, le8_all, two-front, two-all}
 use Rattle.codec.proofs.Lead.{lead, lead_is, LastGood, digits_lead}
@@ -20,7 +20,7 @@ use Rattle.codec.proofs.Carried.{no_call}
 whole-bytes :
     (d e : ℕ) (t : List ℕ) → eight d ≡ true → eight e ≡ true → bytes t ≡ true →
     high t < length t → LastGood t → high t + 1 + value (lead t) ≤ length t →
-    Bytes_of (renamed d e t) (4 ∷ le8 d ++ (le8 e ++ t))
+    BytesOf (renamed d e t) (4 ∷ le8 d ++ (le8 e ++ t))
 unfolding readable call_number
 whole-bytes d e t dd ee y l g w =
     let h : ℕ = high t + 1 in
@@ -43,18 +43,18 @@ whole-bytes d e t dd ee y l g w =
 
 only-names :
     (d e : ℕ) (t : List ℕ) → eight d ≡ true → eight e ≡ true → bytes t ≡ true → Names d e t →
-    is_call (read_rename d e (high t) t) ≡ true → Bytes_of (read_rename d e (high t) t) (4 ∷ le8 d ++ (le8 e ++ t))
+    is_call (read_rename d e (high t) t) ≡ true → BytesOf (read_rename d e (high t) t) (4 ∷ le8 d ++ (le8 e ++ t))
 only-names d e t dd ee y (no_end _ q) c = absurd (no_call _ _ q c)
 only-names d e t dd ee y (last_zero _ q _ _) c = absurd (no_call _ _ q c)
 only-names d e t dd ee y (short_name _ _ _ q) c = absurd (no_call _ _ q c)
 only-names d e t dd ee y (whole l g w q) c =
-    subst (λ r. Bytes_of r (4 ∷ le8 d ++ (le8 e ++ t))) (sym q) (whole-bytes d e t dd ee y l g w)
+    subst (λ r. BytesOf r (4 ∷ le8 d ++ (le8 e ++ t))) (sym q) (whole-bytes d e t dd ee y l g w)
 
 -- EACH NUMBER of a call
 only-kind :
     (k : ℕ) (b : List ℕ) → Kind k → numbers_end k ≤ suc (length b) →
     (open_ended k ≡ false → numbers_end k ≡ suc (length b)) → bytes b ≡ true →
-    is_call (of_kind k b) ≡ true → Bytes_of (of_kind k b) (k ∷ b)
+    is_call (of_kind k b) ≡ true → BytesOf (of_kind k b) (k ∷ b)
 unfolding made readable call_number
 only-kind _ b a_find l o y c =
     let f = le8_front b (omega arith) y in (and_from _ _ f.1 (bytes_drop 8 b y), refl, ap (λ xs. 0 ∷ xs) f.0)
@@ -66,7 +66,7 @@ only-kind _ b a_remove l o y c =
     let f = le8_front b (omega arith) y in (and_from _ _ f.1 (bytes_drop 8 b y), refl, ap (λ xs. 3 ∷ xs) f.0)
 only-kind _ b a_rename l o y c =
     let w = two-front b (omega arith) y in
-    subst (λ xs. Bytes_of (of_kind 4 b) (4 ∷ xs)) w.0
+    subst (λ xs. BytesOf (of_kind 4 b) (4 ∷ xs)) w.0
     (only-names (from_le8 b) (from_le8 (drop 8 b)) (drop 16 b) w.1 w.2 (bytes_drop 16 b y) (names_of _ _ _) c)
 only-kind _ b a_list l o y c =
     let q = o refl in
@@ -90,12 +90,12 @@ only-kind _ b a_sync_tree l o y c =
 
 only-reads :
     (k : ℕ) (b : List ℕ) → Reads k b → bytes (k ∷ b) ≡ true → is_call (read_call (k ∷ b)) ≡ true →
-    Bytes_of (read_call (k ∷ b)) (k ∷ b)
+    BytesOf (read_call (k ∷ b)) (k ∷ b)
 only-reads k b (no_kind _ q) y c = absurd (no_call _ _ q c)
 only-reads k b (short _ _ q) y c = absurd (no_call _ _ q c)
 only-reads k b (long _ _ _ q) y c = absurd (no_call _ _ q c)
 only-reads k b (fits h l o q) y c =
-    subst (λ r. Bytes_of r (k ∷ b)) (sym q)
+    subst (λ r. BytesOf r (k ∷ b)) (sym q)
     (only-kind k b (kind k h) l o (tail_bytes k b y) (subst (λ r. is_call r ≡ true) q c))
 
 pub only_calls : OnlyCallsRead

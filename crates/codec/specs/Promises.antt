@@ -11,12 +11,12 @@ abbrev pub is_call : Call → Bool
 is_call c = not (call_number c == 255)
 
 -- c is a call that bytes can carry, and bs are its bytes
-abbrev pub Bytes_of : Call → List ℕ → Type 0
-Bytes_of c bs = (readable c ≡ true) × (is_call c ≡ true) × (call_bytes c ≡ bs)
+abbrev pub BytesOf : Call → List ℕ → Type 0
+BytesOf c bs = (readable c ≡ true) × (is_call c ≡ true) × (call_bytes c ≡ bs)
 
 -- with bs the bytes of some call begin
 abbrev pub BeginsCall : List ℕ → Type 0
-BeginsCall bs = (c : Call) × ((rest : List ℕ) × Bytes_of c (bs ++ rest))
+BeginsCall bs = (c : Call) × ((rest : List ℕ) × BytesOf c (bs ++ rest))
 
 -- n is the length of the longest front of bs with which some call's bytes begin: that front does, and no longer front
 abbrev pub LongestFront : List ℕ → ℕ → Type 0
@@ -29,11 +29,11 @@ CallsCarried = Carried call_bytes read_call
 
 -- nothing else is read as a call: where one is read, the bytes are its bytes
 abbrev pub OnlyCallsRead : Type 0
-OnlyCallsRead = (bs : List ℕ) → bytes bs ≡ true → is_call (read_call bs) ≡ true → Bytes_of (read_call bs) bs
+OnlyCallsRead = (bs : List ℕ) → bytes bs ≡ true → is_call (read_call bs) ≡ true → BytesOf (read_call bs) bs
 
 -- bytes that are read as garbled are no call's
 abbrev pub GarbledIsNoCall : Type 0
-GarbledIsNoCall = (bs : List ℕ) (n : ℕ) → read_call bs ≡ garbled n → (c : Call) → Bytes_of c bs → ⊥
+GarbledIsNoCall = (bs : List ℕ) (n : ℕ) → read_call bs ≡ garbled n → (c : Call) → BytesOf c bs → ⊥
 
 -- and the place is the length of the longest front with which some call's bytes begin
 abbrev pub GarbledAtLongestFront : Type 0
@@ -41,7 +41,7 @@ GarbledAtLongestFront = (bs : List ℕ) (n : ℕ) → bytes bs ≡ true → read
 
 -- two different calls have different bytes
 abbrev pub CallsToldApart : Type 0
-CallsToldApart = (c d : Call) (bs : List ℕ) → Bytes_of c bs → Bytes_of d bs → c ≡ d
+CallsToldApart = (c d : Call) (bs : List ℕ) → BytesOf c bs → BytesOf d bs → c ≡ d
 
 -- a call's bytes are bytes
 abbrev pub CallsAreBytes : Type 0
