@@ -8,8 +8,8 @@ use Rattle.model.specs.Calls.{Call, find, make_file, make_dir, remove, rename, l
 use Rattle.model.specs.Calls.{garbled, block, empty_block, call_number, good_fields, readable}
 use Rattle.model.specs.Refusals.{Limits, refusal_by}
 use Rattle.model.specs.Fs.{reply, Cell, Fs, is_in, held, turned, answer, after}
-use Rattle.model.specs.World.{Disk, seen}
-use Rattle.model.specs.Promise.{Right, ComesToAnEnd, StaysSmall}
+use Rattle.model.specs.World.{Disk, seen, World, Lived}
+use Rattle.model.specs.Promise.{GoodLimits, all_readable, Right, ComesToAnEnd, StaysSmall}
 use Rattle.machine.specs.State.{Sized, counts_of, State, ren, Kind, nothing, push_it, write_it, keep_it, sync_it, kind, count_set}
 use Rattle.machine.specs.Program.{Encoding, by_checkpoint, by_journal, rested, reply_by, acts_by, next_by, refusal_of, state_says}
 use Rattle.machine.specs.Program.{state_does, state_next, program}
@@ -20,7 +20,7 @@ use Rattle.machine.proofs.Disks.{get_or-seen}
 use Rattle.machine.proofs.Renaming.{refusal_ren, find_ren, entries_ren, cells_of_ren}
 use Rattle.machine.proofs.Changes.{changed_by, changed_is, ren_kind, kind_ren, Fine, fine, cond_then, cond_else, place_in, in_body}
 use Rattle.machine.proofs.Counting.{held_count}
-use Rattle.machine.proofs.Histories.{right_by, ends_by, small_by}
+use Rattle.machine.proofs.Histories.{Good, all_good, right_by, ends_by, small_by}
 use Rattle.machine.proofs.Power.{power_goes}
 use Rattle.machine.proofs.Frames.{new_goes}
 use Rattle.machine.proofs.Writes.{tree_held, stays, writes, keeps}
@@ -143,3 +143,8 @@ ends k Fits laws = ends_by k Fits laws (calls_go k Fits laws) (power_goes k Fits
 
 pub small : (k : Encoding) (Fits : Limits → Tree → Type 0) → Laws k Fits → (can : ℕ → Bool) → StaysSmall can (program k)
 small k Fits laws = small_by k Fits laws (calls_go k Fits laws) (power_goes k Fits laws) (new_goes k Fits laws)
+
+-- and how things stand, always
+pub good : (k : Encoding) (Fits : Limits → Tree → Type 0) → Laws k Fits → (can : ℕ → Bool) (l : Limits) (w : World) →
+    GoodLimits can l → Lived (program k) l w → all_readable w.past ≡ true → Good k Fits l w
+good k Fits laws = all_good k Fits laws (calls_go k Fits laws) (power_goes k Fits laws) (new_goes k Fits laws)

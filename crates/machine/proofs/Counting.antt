@@ -1,10 +1,11 @@
 -- Which data blocks are held, how many they are, and which are free: the bits count what the model counts.
-use Rattle.std.proofs.Common.{◌≡◌, ℕ, zero, suc, ◌+◌, ◌<◌, ◌≤◌, Bool, true, false, ◌||◌, eqb, List, [], ◌∷◌, ◌++◌, map, length, set, replicate, sym, refl, ap, ◌∙◌, subst, ⊎_elim, zero-le, not-suc-le-zero, zero-add, arith}
-use Rattle.std.proofs.lemmas.Bool.{eqb-true, eq-eqb, ne_eqb, or_cases, or_left, or_right, both_ways, cases_Bool, cases_eq}
+use Rattle.std.proofs.Common.{◌≡◌, ℕ, zero, suc, ◌+◌, ◌<◌, ◌≤◌, Bool, true, false, ◌||◌, eqb, List, [], ◌∷◌, ◌++◌, map, length, get_or, set, sym, refl, ap, ◌∙◌, subst, ⊎_elim, zero-le, not-suc-le-zero, add-zero, zero-add, arith, length-set}
+use Rattle.std.proofs.lemmas.List.{get_or-set_same}
+use Rattle.std.proofs.lemmas.Bool.{eqb-true, eqb-false, eq-eqb, ne_eqb, or_cases, or_parts, or_left, or_right, both_ways, false≢true, cases_Bool, cases_eq}
 use Rattle.model.specs.Fs.{is_in, each_once}
 use Rattle.machine.specs.State.{marks, count_set, free, marked}
 use Rattle.machine.proofs.Invariant.{at, Placed}
-use Rattle.machine.proofs.Lists.{in_append, in_map, of_map, same_in}
+use Rattle.machine.proofs.Lists.{get_or_set_apart, in_append, in_map, of_map, same_in}
 
 pub length-marks : (n i : ℕ) (bs : List ℕ) → length (marks n i bs) ≡ n
 unfolding marks
@@ -16,6 +17,17 @@ unfolding count_set
 count_few [] = zero-le
 count_few (true ∷ bs) = let q = count_few bs in omega arith
 count_few (false ∷ bs) = let q = count_few bs in omega arith
+
+-- where each bit that is set in one row is set in another, there are no more of them
+pub count_under : (cs bs : List Bool) → length cs ≡ length bs → ((i : ℕ) → get_or cs i false ≡ true → get_or bs i false ≡ true) →
+    count_set cs ≤ count_set bs
+unfolding count_set
+count_under [] bs e f = omega arith
+count_under (a ∷ xs) [] e f = absurd (omega arith)
+count_under (true ∷ xs) (true ∷ ys) e f = omega (arith, count_under xs ys (omega arith) (λ i. f (suc i)))
+count_under (true ∷ xs) (false ∷ ys) e f = absurd (false≢true (f 0 refl))
+count_under (false ∷ xs) (true ∷ ys) e f = omega (arith, count_under xs ys (omega arith) (λ i. f (suc i)))
+count_under (false ∷ xs) (false ∷ ys) e f = omega (arith, count_under xs ys (omega arith) (λ i. f (suc i)))
 
 pub marks_same : (n k : ℕ) (xs ys : List ℕ) → ((c : ℕ) → is_in c xs ≡ is_in c ys) → marks n k xs ≡ marks n k ys
 unfolding marks
@@ -98,6 +110,46 @@ marked_marks r (x ∷ xs) hs =
     ∙ marks_same r 0 (xs ++ (x ∷ hs)) ((x ∷ xs) ++ hs) (λ c. in_append c xs (x ∷ hs)
     ∙ (or_swap (is_in c xs) (eqb c x) (is_in c hs) ∙ ap (λ (b : Bool). eqb c x || b) (sym (in_append c xs hs)))))
 
+pub length_marked : (xs : List ℕ) (bs : List Bool) → length (marked xs bs) ≡ length bs
+unfolding marked
+length_marked [] bs = refl
+length_marked (x ∷ xs) bs = length_marked xs (set bs x true) ∙ length-set bs x true
+
+pub marked_out : (x : ℕ) (xs : List ℕ) (bs : List Bool) → is_in x xs ≡ false → get_or (marked xs bs) x false ≡ get_or bs x false
+unfolding marked is_in
+marked_out x [] bs h = refl
+marked_out x (y ∷ ys) bs h =
+    let p = or_parts (eqb x y) (is_in x ys) h in
+    marked_out x ys (set bs y true) p.1 ∙ get_or_set_apart false bs y x true (λ e. eqb-false x y p.0 (sym e))
+
+pub marked_in : (x : ℕ) (xs : List ℕ) (bs : List Bool) → is_in x xs ≡ true → x < length bs → get_or (marked xs bs) x false ≡ true
+unfolding marked is_in
+marked_in x [] bs h p = absurd (false≢true h)
+marked_in x (y ∷ ys) bs h p = ⊎_elim
+    (λ q. marked_in x ys (set bs y true) q (subst (λ (n : ℕ). x < n) (sym (length-set bs y true)) p))
+    (λ q. ⊎_elim
+    (λ r. let w : x ≡ y = eqb-true x y r in
+    marked_out x ys (set bs y true) q
+    ∙ subst (λ (z : ℕ). get_or (set bs y true) z false ≡ true) (sym w)
+    (get_or-set_same bs y true false (subst (λ (z : ℕ). z < length bs) w p)))
+    (λ r. absurd (both_ways (is_in x ys) q r)) (or_cases (eqb x y) (is_in x ys) h))
+    (cases_Bool (is_in x ys))
+
+-- which they are
+pub marks_have : (n k i : ℕ) (cs : List ℕ) → get_or (marks n k cs) i false ≡ true → is_in (k + i) cs ≡ true
+unfolding marks
+marks_have zero k i cs h = absurd (false≢true h)
+marks_have (suc n) k zero cs h = subst (λ (x : ℕ). is_in x cs ≡ true) (sym (add-zero k)) h
+marks_have (suc n) k (suc i) cs h = subst (λ (x : ℕ). is_in x cs ≡ true) (let e : suc k + i ≡ k + suc i = omega arith in e)
+    (marks_have n (suc k) i cs h)
+
+pub have_marks : (n k i : ℕ) (cs : List ℕ) → i < n → is_in (k + i) cs ≡ true → get_or (marks n k cs) i false ≡ true
+unfolding marks
+have_marks zero k i cs p h = absurd (not-suc-le-zero p)
+have_marks (suc n) k zero cs p h = subst (λ (x : ℕ). is_in x cs ≡ true) (add-zero k) h
+have_marks (suc n) k (suc i) cs p h =
+    have_marks n (suc k) i cs (omega arith) (subst (λ (x : ℕ). is_in x cs ≡ true) (let e : k + suc i ≡ suc k + i = omega arith in e) h)
+
 -- free blocks
 pub free-length : (n : ℕ) (bs : List Bool) (k : ℕ) → n + count_set bs ≤ length bs → length (free n bs k) ≡ n
 unfolding free count_set
@@ -123,27 +175,31 @@ free_apart (suc n) (false ∷ bs) k i zero p h = absurd (not-suc-le-zero p)
 free_apart (suc n) (false ∷ bs) k zero (suc j) p h = free_low n bs (suc k) j (omega arith)
 free_apart (suc n) (false ∷ bs) k (suc i) (suc j) p h = free_apart n bs (suc k) i j (omega arith) (omega arith)
 
-pub free_in : (n r k : ℕ) (hs : List ℕ) (j : ℕ) → j < length (free n (marks r k hs) k) → (at (free n (marks r k hs) k) j < k + r) ×
-    (is_in (at (free n (marks r k hs) k) j) hs ≡ false)
-unfolding free marks
-free_in zero r k hs j h = absurd (not-suc-le-zero h)
-free_in (suc n) zero k hs j h = absurd (not-suc-le-zero h)
-free_in (suc n) (suc r) k hs j h = go (is_in k hs) refl j h (free_in (suc n) r (suc k) hs) (free_in n r (suc k) hs)
-  where
-    Fact : List ℕ → ℕ → ℕ → Type 0
-    Fact xs j r = (at xs j < r) × (is_in (at xs j) hs ≡ false)
+-- they are clear
+free_clear : (n : ℕ) (bs : List Bool) (k j i : ℕ) → j < length (free n bs k) → at (free n bs k) j ≡ k + i →
+    (i < length bs) × (get_or bs i false ≡ false)
+unfolding free
+free_clear zero bs k j i h e = absurd (not-suc-le-zero h)
+free_clear (suc n) [] k j i h e = absurd (not-suc-le-zero h)
+free_clear (suc n) (true ∷ bs) k j zero h e = absurd (omega (arith, free_low (suc n) bs (suc k) j h))
+free_clear (suc n) (true ∷ bs) k j (suc i) h e =
+    let q = free_clear (suc n) bs (suc k) j i h (omega arith) in (omega (arith, q.0), q.1)
+free_clear (suc n) (false ∷ bs) k zero i h e = let z : i ≡ 0 = omega arith in rw z (omega arith, refl)
+free_clear (suc n) (false ∷ bs) k (suc j) zero h e = absurd (omega (arith, free_low n bs (suc k) j (omega arith)))
+free_clear (suc n) (false ∷ bs) k (suc j) (suc i) h e =
+    let q = free_clear n bs (suc k) j i (omega arith) (omega arith) in (omega (arith, q.0), q.1)
 
-    go : (b : Bool) → is_in k hs ≡ b → (j : ℕ) → j < length (free (suc n) (b ∷ marks r (suc k) hs) k) →
-        ((j : ℕ) → j < length (free (suc n) (marks r (suc k) hs) (suc k)) → Fact (free (suc n) (marks r (suc k) hs) (suc k)) j
-        (suc k + r)) →
-        ((j : ℕ) → j < length (free n (marks r (suc k) hs) (suc k)) → Fact (free n (marks r (suc k) hs) (suc k)) j (suc k + r)) →
-        Fact (free (suc n) (b ∷ marks r (suc k) hs) k) j (k + suc r)
-    go true e j h f g = let q = f j h in (omega (arith, q.0), q.1)
-    go false e zero h f g = (omega arith, e)
-    go false e (suc j) h f g = let q = g j (omega arith) in (omega (arith, q.0), q.1)
+pub free_open : (n : ℕ) (bs : List Bool) (j : ℕ) → j < length (free n bs 0) →
+    (at (free n bs 0) j < length bs) × (get_or bs (at (free n bs 0) j) false ≡ false)
+free_open n bs j h = free_clear n bs 0 j (at (free n bs 0) j) h (omega arith)
 
--- for code that makes the marks by a loop over cells
-marks_none : (r k : ℕ) → marks r k [] ≡ replicate r false
-unfolding marks is_in
-marks_none zero k = refl
-marks_none (suc r) k = ap {B = List Bool} (λ bs. false ∷ bs) (marks_none r (suc k))
+pub free_in : (n r : ℕ) (hs : List ℕ) (j : ℕ) → j < length (free n (marks r 0 hs) 0) →
+    (at (free n (marks r 0 hs) 0) j < r) × (is_in (at (free n (marks r 0 hs) 0) j) hs ≡ false)
+free_in n r hs j h =
+    let x : ℕ = at (free n (marks r 0 hs) 0) j in
+    let q = free_open n (marks r 0 hs) j h in
+    let p : x < r = omega (arith, q.0, length-marks r 0 hs) in (
+      p,
+      ⊎_elim (λ e. absurd (both_ways _ q.1 (have_marks r 0 x hs p (subst (λ (y : ℕ). is_in y hs ≡ true) (sym (zero-add x)) e))))
+          (λ e. e) (cases_Bool (is_in x hs)),
+    )

@@ -23,7 +23,7 @@ unfolding chosen
 chosen_twice g h k i [] = refl
 chosen_twice g h k i (c ∷ cs) = rw (nth_one (get_or (c.now ∷ c.maybe) (g k) c.now) (h i), chosen_twice g h (suc k) (suc i) cs)
 
-good_tail : (n : ℕ) (x : Act) (xs : List Act) → good_acts n (x ∷ xs) ≡ true → good_acts n xs ≡ true
+pub good_tail : (n : ℕ) (x : Act) (xs : List Act) → good_acts n (x ∷ xs) ≡ true → good_acts n xs ≡ true
 unfolding good_acts
 good_tail n (put_block j b) xs h = (and_parts (ltb j n && (eqb (length b) 4096 && bytes b)) (good_acts n xs) h).1
 good_tail n keep_all xs h = h
@@ -31,6 +31,15 @@ good_tail n keep_all xs h = h
 abbrev pub NewGoes : (k : Encoding) (Fits : Limits → Tree → Type 0) → Type 0
 NewGoes k Fits = (l : Limits) (d : Disk) → Sized l → Fit l d → let e : Disk = did_all ((program k).makes l) d in
     SomeIdle k Fits l new_fs e (wakes k l (seen e))
+
+-- what a state has of which nothing is under way
+pub held_long : (k : Encoding) (Fits : Limits → Tree → Type 0) (l : Limits) (s : Fs) (d : Disk) (st : State) (m : List ℕ) →
+    Idle k Fits l s d st m → length st.held ≡ l.room
+held_long k Fits l s d st m i = ap length i.held_bits ∙ length-marks l.room 0 (map (at m) (held_cells s))
+
+pub older_few : (k : Encoding) (Fits : Limits → Tree → Type 0) (l : Limits) (s : Fs) (d : Disk) (st : State) (m : List ℕ) →
+    Idle k Fits l s d st m → st.older ≤ l.pending
+older_few k Fits l s d st m i = subst (λ (n : ℕ). n ≤ l.pending) (sym i.older_is) i.few
 
 -- how things stand: power gone; nothing under way; a call under way
 abbrev pub Now : (k : Encoding) (Fits : Limits → Tree → Type 0) → Limits → Fs → Disk → List ℕ → Bool → List Act → List Under → Type 0
@@ -43,6 +52,18 @@ Now k Fits l s d mem true todo (u ∷ us) = (us ≡ []) × (readable u.call ≡ 
 abbrev pub Good : (k : Encoding) (Fits : Limits → Tree → Type 0) → Limits → World → Type 0
 Good k Fits l w = (s : Fs) × Explains l w.past s × SmallMem l w.memory × Now k Fits l s w.disk w.memory w.up w.todo
     w.under
+
+-- the same, by what is known of the world
+pub turn : (k : Encoding) (Fits : Limits → Tree → Type 0) (l : Limits) (s : Fs) (v : World) (up : Bool) (todo : List Act)
+    (us : List Under) → v.up ≡ up → v.todo ≡ todo → v.under ≡ us →
+    Now k Fits l s v.disk v.memory v.up v.todo v.under → Now k Fits l s v.disk v.memory up todo us
+turn k Fits l s v up todo us p q r n =
+    subst₃ (λ (x : Bool) (y : List Act) (z : List Under). Now k Fits l s v.disk v.memory x y z) p q r n
+
+pub cut_readable : (us : List Under) (hs : List Happening) → all_readable (cut us hs) ≡ true → all_readable hs ≡ true
+unfolding cut all_readable
+cut_readable [] hs ar = ar
+cut_readable (u ∷ us) hs ar = (and_parts (readable u.call) (all_readable hs) ar).1
 
 module _ (k : Encoding) (Fits : Limits → Tree → Type 0) (calls_go : CallsGo k Fits) (power_goes : PowerGoes k Fits)
     (new_goes : NewGoes k Fits)
@@ -153,19 +174,9 @@ module _ (k : Encoding) (Fits : Limits → Tree → Type 0) (calls_go : CallsGo 
       (lost (length t.older) p.0 t, cut_late u.call (length t.older) p.0 ex, none_small, p.1))
       (b.3.fronts 0 g)
 
-  cut_readable : (us : List Under) (hs : List Happening) → all_readable (cut us hs) ≡ true → all_readable hs ≡ true
-  unfolding cut all_readable
-  cut_readable [] hs ar = ar
-  cut_readable (u ∷ us) hs ar = (and_parts (readable u.call) (all_readable hs) ar).1
-
   step_mended : (s : Fs) (d : Disk) (mem : List ℕ) (todo : List Act) (us : List Under) → Now k Fits l s d mem false todo us →
       Now k Fits l s d (k.encode l (wakes k l (seen d))) true [] []
   step_mended s d mem todo us n = (refl, (wakes k l (seen d), refl, n.3))
-
-  turn : (s : Fs) (v : World) (up : Bool) (todo : List Act) (us : List Under) → v.up ≡ up → v.todo ≡ todo → v.under ≡ us →
-      Now k Fits l s v.disk v.memory v.up v.todo v.under →
-      Now k Fits l s v.disk v.memory up todo us
-  turn s v up todo us p q r n = subst₃ (λ (x : Bool) (y : List Act) (z : List Under). Now k Fits l s v.disk v.memory x y z) p q r n
 
   pub good : (w : World) → Lived (program k) l w → all_readable w.past ≡ true → Good k Fits l w
   unfolding all_readable
@@ -190,18 +201,18 @@ module _ (k : Encoding) (Fits : Limits → Tree → Type 0) (calls_go : CallsGo 
   good w (answered {w = v} u lv up todo under) ar =
       let ps = and_parts (readable u.call) (all_readable v.past) ar in
       let g = good v lv ps.1 in
-      step_answered g.0 v.disk v.memory v.past u g.1 (turn g.0 v true [] (u ∷ []) up todo under g.3) ps.0
+      step_answered g.0 v.disk v.memory v.past u g.1 (turn k Fits l g.0 v true [] (u ∷ []) up todo under g.3) ps.0
   good w (power {w = v} f lv up) ar =
       let g = good v lv (cut_readable v.under v.past ar) in
       step_power g.0 v.disk v.memory v.todo v.under v.past f g.1
-      (turn g.0 v true v.todo v.under up refl refl g.3) ar
+      (turn k Fits l g.0 v true v.todo v.under up refl refl g.3) ar
   good w (power_again {w = v} f lv up) ar =
       let g = good v lv ar in
-      let n = turn g.0 v false v.todo v.under up refl refl g.3 in
+      let n = turn k Fits l g.0 v false v.todo v.under up refl refl g.3 in
       (g.0, g.1, none_small, subst (λ (e : Disk). Now k Fits l g.0 e [] false [] []) (sym (n.2 f)) (refl, refl, n.2, n.3))
   good w (mended {w = v} lv up todo) ar =
       let g = good v lv ar in
-      let n = turn g.0 v false v.todo v.under up refl refl g.3 in (
+      let n = turn k Fits l g.0 v false v.todo v.under up refl refl g.3 in (
         g.0,
         g.1,
         mem_small l g.0 v.disk (wakes k l (seen v.disk)) n.3.0 gl n.3.1,
@@ -212,25 +223,20 @@ module _ (k : Encoding) (Fits : Limits → Tree → Type 0) (calls_go : CallsGo 
 -- the promises, from what is owed of calls, of power and of a new disk
 module _ (k : Encoding) (Fits : Limits → Tree → Type 0) (laws : Laws k Fits) (calls_go : CallsGo k Fits)
     (power_goes : PowerGoes k Fits) (new_goes : NewGoes k Fits) (can : ℕ → Bool) where
-  taken_long : (l : Limits) (s : Fs) (d : Disk) (st : State) (m : List ℕ) → Idle k Fits l s d st m → length st.held ≡ l.room
-  taken_long l s d st m i = ap length i.held_bits ∙ length-marks l.room 0 (map (at m) (held_cells s))
-
-  older_few : (l : Limits) (s : Fs) (d : Disk) (st : State) (m : List ℕ) → Idle k Fits l s d st m → st.older ≤ l.pending
-  older_few l s d st m i = subst (λ (n : ℕ). n ≤ l.pending) (sym i.older_is) i.few
-
   dec_enc : (l : Limits) (s : Fs) (d : Disk) (st : State) (m : List ℕ) → Sized l → Idle k Fits l s d st m →
       k.decode l (k.encode l st) ≡ st
-  dec_enc l s d st m gl i = laws.dec_enc l st gl i.tree_fits (older_few l s d st m i) (taken_long l s d st m i) i.fresh_long
+  dec_enc l s d st m gl i =
+      laws.dec_enc l st gl i.tree_fits (older_few k Fits l s d st m i) (held_long k Fits l s d st m i) i.fresh_long
       i.journal_fits i.journal_ok
 
   mem_small : (l : Limits) (s : Fs) (d : Disk) (st : State) (m : List ℕ) → Sized l → Idle k Fits l s d st m → SmallMem l (k.encode l st)
   mem_small l s d st m gl i = laws.enc_small l st i.root.base gl i.safe.base_fits i.base_is i.tree_fits
-      (older_few l s d st m i) (taken_long l s d st m i) i.fresh_long i.journal_fits i.journal_ok
+      (older_few k Fits l s d st m i) (held_long k Fits l s d st m i) i.fresh_long i.journal_fits i.journal_ok
 
   sized : (l : Limits) → GoodLimits can l → Sized l
   sized l gl = (gl.0, gl.1, gl.2, gl.3, gl.4)
 
-  all_good : (l : Limits) (w : World) → GoodLimits can l → Lived (program k) l w → all_readable w.past ≡ true → Good k Fits l w
+  pub all_good : (l : Limits) (w : World) → GoodLimits can l → Lived (program k) l w → all_readable w.past ≡ true → Good k Fits l w
   all_good l w gl lv ar = good k Fits calls_go power_goes new_goes dec_enc mem_small l (sized l gl) w lv ar
 
   pub right_by : Right can (program k)

@@ -9,6 +9,7 @@
 --   Histories, Calls        induction over everything that can happen; the promises, for any encoding
 --   Tables, JournalWords, LayoutLaws    the layout is such an encoding
 --   Quiet, Cost             what does nothing; acts counted
+--   Whole, Always           blocks of the disk stay whole; what holds whenever nothing is under way
 pub mod Lists
 pub mod Disks
 pub mod Renaming
@@ -30,3 +31,5 @@ pub mod JournalWords
 pub mod LayoutLaws
 pub mod Quiet
 pub mod Cost
+pub mod Whole
+pub mod Always

@@ -1,9 +1,9 @@
 -- A new tree: make, remove, rename and resize in one proof. New cells are the lowest free data blocks; they are held and
 -- fresh; the journal gets one item more, or is over.
-use Rattle.std.proofs.Common.{◌≡◌, ℕ, zero, suc, ◌+◌, ◌-◌, ◌<◌, ◌≤◌, Bool, true, false, cond, not, eqb, ◌⊎◌, List, [], ◌∷◌, ◌++◌, map, length, get_or, set, replicate, sym, refl, ap, ◌∙◌, subst, ap₂, inl, inr, ⊎_elim, append_assoc, zero-le, arith, length-append, length-set}
+use Rattle.std.proofs.Common.{◌≡◌, ℕ, zero, suc, ◌+◌, ◌-◌, ◌<◌, ◌≤◌, Bool, true, false, cond, not, eqb, ◌⊎◌, List, [], ◌∷◌, ◌++◌, map, length, get_or, replicate, sym, refl, ap, ◌∙◌, subst, ap₂, inl, inr, ⊎_elim, append_assoc, zero-le, arith, length-append}
 use lib.ListN.{length-replicate}
-use Rattle.std.proofs.lemmas.List.{get_or-set_same, get_or_append_left}
-use Rattle.std.proofs.lemmas.Bool.{and_from, and_parts, not-true, true≢false, ne_eqb, cases_Bool, cases_order, eqb-true, eqb-false, both_ways, false≢true, or_left, or_right, or_cases, or_parts, eq-eqb}
+use Rattle.std.proofs.lemmas.List.{get_or_append_left}
+use Rattle.std.proofs.lemmas.Bool.{and_from, and_parts, not-true, true≢false, ne_eqb, cases_Bool, cases_order, both_ways, or_left, or_right, eq-eqb}
 use Rattle.model.specs.Tree.{Tree, Node, Body, dir, file, cells, all_cells}
 use Rattle.model.specs.Calls.{Call, readable}
 use Rattle.model.specs.Refusals.{Limits, refusal, refusal_by}
@@ -15,14 +15,13 @@ use Rattle.machine.specs.State.{Sized, Item, State, Core, step, is_push, redo, s
 use Rattle.machine.specs.State.{ren_nodes, marks, count_set, free, marked, more, next_tree}
 use Rattle.machine.specs.Program.{longer, has_place, Encoding, refusal_of}
 use Rattle.machine.specs.Fits.{ok_call, ok_journal}
-use Rattle.machine.proofs.Counting.{length-marks}
 use Rattle.machine.proofs.Invariant.{at, last, last_cells, held_cells, Placed, Stored, Laws, Safe, Idle, Busy}
-use Rattle.machine.proofs.Lists.{get_or_set_apart, get_or_append_at, get_or_replicate_any}
+use Rattle.machine.proofs.Lists.{get_or_append_at, get_or_replicate_any}
 use Rattle.machine.proofs.Lists.{in_left, in_right, in_either, in_map, of_map, in_nth, in_at, in_numbers, same_in}
 use Rattle.machine.proofs.Renaming.{all_cells_ren}
 use Rattle.machine.proofs.Renaming.{more_ren, next_ren}
 use Rattle.machine.proofs.Changes.{pushed, next_from, next_has}
-use Rattle.machine.proofs.Counting.{marks_same, marked_marks, held_count, free-length, free_apart, free_in}
+use Rattle.machine.proofs.Counting.{length-marks, length_marked, marked_out, marked_in, marks_same, marked_marks, held_count, free-length, free_apart, free_in}
 use Rattle.machine.proofs.Writes.{tree_held, last_held, before, take_none}
 
 -- one more in a journal
@@ -37,37 +36,11 @@ redo_goes : (l : Limits) (x : Core) (c : Call) → refusal l x.tree x.older (cou
 unfolding is_push
 redo_goes l x c e k = rw (e, k)
 
-ok-append : (is : List Item) (i : Item) → ok_journal is ≡ true → ok_call i.call ≡ true → ok_journal (is ++ (i ∷ [])) ≡ true
+pub ok-append : (is : List Item) (i : Item) → ok_journal is ≡ true → ok_call i.call ≡ true → ok_journal (is ++ (i ∷ [])) ≡ true
 unfolding ok_journal
 ok-append [] i h g = and_from (ok_call i.call) true g refl
 ok-append (j ∷ is) i h g = let p = and_parts (ok_call j.call) (ok_journal is) h in
     and_from (ok_call j.call) (ok_journal (is ++ (i ∷ []))) p.0 (ok-append is i p.1 g)
-
--- marks
-length_marked : (xs : List ℕ) (bs : List Bool) → length (marked xs bs) ≡ length bs
-unfolding marked
-length_marked [] bs = refl
-length_marked (x ∷ xs) bs = length_marked xs (set bs x true) ∙ length-set bs x true
-
-marked_out : (x : ℕ) (xs : List ℕ) (bs : List Bool) → is_in x xs ≡ false → get_or (marked xs bs) x false ≡ get_or bs x false
-unfolding marked is_in
-marked_out x [] bs h = refl
-marked_out x (y ∷ ys) bs h =
-    let p = or_parts (eqb x y) (is_in x ys) h in
-    marked_out x ys (set bs y true) p.1 ∙ get_or_set_apart false bs y x true (λ e. eqb-false x y p.0 (sym e))
-
-marked_in : (x : ℕ) (xs : List ℕ) (bs : List Bool) → is_in x xs ≡ true → x < length bs → get_or (marked xs bs) x false ≡ true
-unfolding marked is_in
-marked_in x [] bs h p = absurd (false≢true h)
-marked_in x (y ∷ ys) bs h p = ⊎_elim
-    (λ q. marked_in x ys (set bs y true) q (subst (λ (n : ℕ). x < n) (sym (length-set bs y true)) p))
-    (λ q. ⊎_elim
-    (λ r. let w : x ≡ y = eqb-true x y r in
-    marked_out x ys (set bs y true) q
-    ∙ subst (λ (z : ℕ). get_or (set bs y true) z false ≡ true) (sym w)
-    (get_or-set_same bs y true false (subst (λ (z : ℕ). z < length bs) w p)))
-    (λ r. absurd (both_ways (is_in x ys) q r)) (or_cases (eqb x y) (is_in x ys) h))
-    (cases_Bool (is_in x ys))
 
 -- the new numbers stand for the new blocks
 map-numbers : (pre xs : List ℕ) (k n : ℕ) → k ≡ length pre → n ≡ length xs → map (at (pre ++ xs)) (numbers n k) ≡ xs
@@ -137,7 +110,7 @@ module _ (k : Encoding) (Fits : Limits → Tree → Type 0) (laws : Laws k Fits)
 
   new_in : (j : ℕ) → j < length new → (at new j < l.room) × (is_in (at new j) (map (at m) hs) ≡ false)
   new_in j h =
-      let q = free_in N l.room 0 (map (at m) hs) j (subst (λ (xs : List ℕ). j < length xs) new_is h) in (
+      let q = free_in N l.room (map (at m) hs) j (subst (λ (xs : List ℕ). j < length xs) new_is h) in (
         subst (λ (xs : List ℕ). at xs j < l.room) (sym new_is) (omega (arith, q.0)),
         subst
             (λ (xs : List ℕ). is_in (at xs j) (map (at m) hs) ≡ false) (sym new_is) q.1,

@@ -1,6 +1,6 @@
 -- A tree sync, by the journal or by a checkpoint: in both some blocks are put that the last synced tree does not need, all
 -- is kept, and then the superblock is put and kept. `keeps_tree` is one proof for both.
-use Rattle.std.proofs.Common.{◌≡◌, ℕ, zero, suc, ◌+◌, ◌*◌, ◌<◌, ◌≤◌, Bool, true, false, cond, not, ◌&&◌, eqb, ltb, ◌⊎◌, List, [], ◌∷◌, ◌++◌, length, get_or, take, set, replicate, sym, refl, ap, ◌∙◌, subst, inl, inr, ⊎_elim, append-nil, zero-le, not-suc-le-zero, add-zero, zero-add, arith, length-append, length-set}
+use Rattle.std.proofs.Common.{◌≡◌, ℕ, zero, suc, ◌+◌, ◌*◌, ◌<◌, ◌≤◌, Bool, true, false, cond, not, ◌&&◌, eqb, ltb, ◌⊎◌, List, [], ◌∷◌, ◌++◌, length, get_or, take, set, replicate, sym, refl, ap, ◌∙◌, subst, inl, inr, ⊎_elim, append-nil, zero-le, zero-add, arith, length-append, length-set}
 use lib.ListN.{length-replicate}
 use Rattle.std.proofs.lemmas.List.{get_or-set_same}
 use Rattle.std.proofs.lemmas.Bool.{and_parts, and_from, lt-ltb, eqb-true, eq-eqb, or_cases, or_left, or_right, both_ways, false≢true, cases_Bool}
@@ -15,7 +15,7 @@ use Rattle.model_facts.proofs.Cells.{length-chosen}
 use Rattle.machine.specs.State.{Sized, Counts, counts_of, State, ren, marks, Core, synced_core, ready, replay, both}
 use Rattle.machine.specs.Program.{Root, Encoding, area_start, rested, puts, zeros, by_checkpoint, by_journal}
 use Rattle.machine.specs.Fits.{ok_journal}
-use Rattle.machine.proofs.Counting.{length-marks}
+use Rattle.machine.proofs.Counting.{length-marks, marks_have, have_marks}
 use Rattle.machine.proofs.Invariant.{good_block, at, still, left, Covers, last_cells, Placed, Laws, Safe, Idle, SomeSafe, Busy}
 use Rattle.machine.proofs.Lists.{get_or_set_apart}
 use Rattle.machine.proofs.Disks.{get_d_kept, length-kept, length-did_all, did_all-append}
@@ -44,7 +44,7 @@ unfolding puts
 length-puts k [] = refl
 length-puts k (b ∷ bs) = ap suc (length-puts (suc k) bs)
 
-good_puts : (n k : ℕ) (bs : List Block) → k + length bs ≤ n → ((j : ℕ) → j < length bs → good_block (get_or bs j empty_block) ≡ true) →
+pub good_puts : (n k : ℕ) (bs : List Block) → k + length bs ≤ n → ((j : ℕ) → j < length bs → good_block (get_or bs j empty_block) ≡ true) →
     good_acts n (puts k bs) ≡ true
 unfolding good_acts puts
 good_puts n k [] h g = refl
@@ -131,20 +131,6 @@ length_both (a ∷ ks) (b ∷ bs) k = go (a && b) (length_both ks bs (suc k))
         (length ks)
     go true h = omega arith
     go false h = omega arith
-
-marks_have : (n k i : ℕ) (cs : List ℕ) → get_or (marks n k cs) i false ≡ true → is_in (k + i) cs ≡ true
-unfolding marks
-marks_have zero k i cs h = absurd (false≢true h)
-marks_have (suc n) k zero cs h = subst (λ (x : ℕ). is_in x cs ≡ true) (sym (add-zero k)) h
-marks_have (suc n) k (suc i) cs h = subst (λ (x : ℕ). is_in x cs ≡ true) (let e : suc k + i ≡ k + suc i = omega arith in e)
-    (marks_have n (suc k) i cs h)
-
-have_marks : (n k i : ℕ) (cs : List ℕ) → i < n → is_in (k + i) cs ≡ true → get_or (marks n k cs) i false ≡ true
-unfolding marks
-have_marks zero k i cs p h = absurd (not-suc-le-zero p)
-have_marks (suc n) k zero cs p h = subst (λ (x : ℕ). is_in x cs ≡ true) (add-zero k) h
-have_marks (suc n) k (suc i) cs p h =
-    have_marks n (suc k) i cs (omega arith) (subst (λ (x : ℕ). is_in x cs ≡ true) (let e : k + suc i ≡ suc k + i = omega arith in e) h)
 
 those_in : (l : Limits) (fs : List Bool) (cs : List ℕ) (x : ℕ) → is_in x (those l fs cs) ≡ true → (is_in x cs ≡ true) ×
     (get_or fs x false ≡ true)

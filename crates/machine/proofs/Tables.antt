@@ -108,6 +108,11 @@ nodes_back k (t ∷ ts) x y z h =
 pub length-nodes : (ts : List Node) → length (node_words ts) ≡ 4 * length ts
 length-nodes ts = length_joined 4 node_row (λ t. refl) ts
 
+pub entries-append : (ts us : List Node) → entry_count (ts ++ us) ≡ entry_count ts + entry_count us
+unfolding entry_count
+entries-append [] us = omega arith
+entries-append (t ∷ ts) us = let q = entries-append ts us in omega arith
+
 pub length-entries : (ts : List Node) → length (entry_words ts) ≡ 16 * entry_count ts
 unfolding entry_count
 length-entries [] = refl

@@ -5,3 +5,4 @@ pub mod Tables
 pub mod Journal
 pub mod Layout
 pub mod Bounds
+pub mod Kept

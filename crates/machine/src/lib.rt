@@ -4,6 +4,7 @@
 ghost use Rattle.model.specs.Promise.{all, thin, Right, ComesToAnEnd, StaysSmall, LookingDoesNothing, RefusingDoesNothing};
 ghost use Rattle.machine.specs.Layout.{volume_program};
 ghost use Rattle.machine.specs.Bounds.{ActsCounted, ChangesFit, AreasApart, CheckpointsFit, MemoryFits, ReplayFits, Decodes, Loads};
+ghost use Rattle.machine.specs.Kept.{CarriedNext, CarriedRedo, CarriedWoken, AlwaysCarried, AlwaysWritten};
 
 // Whatever happens, and whenever power goes, there is a file system that explains every answer.
 pub fn right() -> u8
@@ -56,6 +57,29 @@ pub fn layout_fits() -> u8
 pub fn reads_back() -> u8
     ensures memory { Decodes }
     ensures disk { Loads }
+{
+    0
+}
+
+// What the layout can carry stays so: after each call, each item of a journal done again, and each start.
+pub fn carries_on() -> u8
+    ensures call { CarriedNext }
+    ensures replay { CarriedRedo }
+    ensures start { CarriedWoken }
+{
+    0
+}
+
+// Whenever the program is up and nothing is under way, its memory is the encoding of a state that the layout can carry.
+pub fn always_carried() -> u8
+    ensures { (AlwaysCarried all) × (AlwaysCarried thin) }
+{
+    0
+}
+
+// Whatever happened, a start finds a superblock and the checkpoint that it names, and every block whole.
+pub fn always_written() -> u8
+    ensures { (AlwaysWritten all) × (AlwaysWritten thin) }
 {
     0
 }
