@@ -3,19 +3,16 @@ use Rattle.std.proofs.Common.{◌≡◌, ℕ, zero, suc, ◌+◌, ◌-◌, ◌<�
 use borrow.Rule.Slice.PartMut.{put_mid}
 use Rattle.std.proofs.lemmas.List.{drop_all, set_at}
 use Rattle.blocks.specs.Words.{le, chunks}
-use Rattle.blocks.proofs.Words.{length-chunks}
 use Rattle.model.specs.Calls.{Call, find, make_file, make_dir, remove, rename, list, size, read, write, resize, sync_file, sync_tree}
 use Rattle.model.specs.Calls.{garbled}
 use Rattle.model.specs.Tree.{Name}
 use Rattle.machine.specs.Journal.{name_size, name_words, field_words, item_words}
 use Rattle.machine.specs.Tables.{name_key}
+use Rattle.machine.proofs.JournalWords.{length-name}
 use Rattle.tables.specs.Append.{item_added}
 use Rattle.journal.specs.Changing.{item_size}
 
 -- HOW MANY
-pub length-name : (n : Name) → length (name_words n) ≡ 1 + name_size (length n)
-length-name n = let l = length-chunks (name_size (length n)) 0 n in omega arith
-
 pub length_item : (b : Bool) (c : Call) → length (item_words (record { first = b; call = c })) ≡ item_size c
 unfolding field_words
 length_item b (find d n) = refl

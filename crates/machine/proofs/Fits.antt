@@ -1,5 +1,5 @@
 -- Trees that the layout can carry stay so: the first tree is one, and each call that is not refused makes one of one.
-use Rattle.std.proofs.Common.{◌≡◌, ℕ, zero, suc, ◌+◌, ◌-◌, ◌*◌, ◌<◌, ◌≤◌, Bool, true, false, cond, ◌&&◌, ◌||◌, eqb, ltb, leb, ◌⊎◌, List, [], ◌∷◌, ◌++◌, length, take, sym, refl, ap, ◌∙◌, subst, ap₂, inl, inr, ⊎_elim, append_assoc, append-nil, zero-le, zero-add, arith, length-append}
+use Rattle.std.proofs.Common.{◌≡◌, ℕ, zero, suc, ◌+◌, ◌-◌, ◌*◌, ◌<◌, ◌≤◌, Bool, true, false, cond, ◌&&◌, ◌||◌, eqb, ltb, leb, ◌⊎◌, List, [], ◌∷◌, ◌++◌, length, take, sym, refl, ap, ◌∙◌, subst, ap₂, inl, inr, ⊎_elim, append_assoc, append-nil, zero-le, arith, length-append}
 use Rattle.std.proofs.lemmas.Bool.{eqb-true, eqb-false, ltb-true, lt-ltb, leb-true, le-leb, eq-eqb, and_parts, and_from, or_cases, or_parts, or_from, or_left, or_right, both_ways, false≢true, cases_Bool, cases_eq}
 use Rattle.model.specs.Tree.{some_of, same, Name, Entry, Body, dir, file, Node, Tree, new_tree, find_node, body_of, is_dir, is_file}
 use Rattle.model.specs.Tree.{entries, cells, find_name, named, without_node, with_body, put_body, without_name, put_entry, drop_entry}
@@ -19,6 +19,7 @@ use Rattle.machine.proofs.Invariant.{at}
 use Rattle.machine.proofs.Lists.{in_append, in_left, in_right, in_either, in_take, in_at}
 use Rattle.machine.proofs.Changes.{cond_then, cond_else, Has, in_body, with_body_from, without_node_from}
 use Rattle.machine.proofs.Counting.{ones_each}
+use Rattle.machine.proofs.Tables.{entries-append}
 
 -- 1. numbers and names
 pub every_append : {A : Type 0} (p : A → Bool) (xs ys : List A) → every p xs ≡ true → every p ys ≡ true → every p (xs ++ ys) ≡ true
@@ -147,11 +148,6 @@ unfolding without_node entry_count
 ents_without i [] = zero-le
 ents_without i (t ∷ ts) = cond_both (λ (us : List Node). entry_count us ≤ length (entries (t.body ∷ [])) + entry_count ts)
     (eqb i t.id) ts (t ∷ without_node i ts) (λ e. omega arith) (λ e. let q = ents_without i ts in omega arith)
-
-pub entries-append : (ts us : List Node) → entry_count (ts ++ us) ≡ entry_count ts + entry_count us
-unfolding entry_count
-entries-append [] us = sym (zero-add (entry_count us))
-entries-append (t ∷ ts) us = let q = entries-append ts us in omega arith
 
 short_name : (m : Name) (es : List Entry) → length (without_name m es) ≤ length es
 unfolding without_name

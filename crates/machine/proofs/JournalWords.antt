@@ -14,7 +14,7 @@ use Rattle.machine.specs.Journal.{rename_to, rename_item, item_from, item_then, 
 use Rattle.machine.specs.Fits.{ok_name, ok_call, ok_journal}
 use Rattle.machine.proofs.Tables.{Short, short_name}
 
-length-name : (n : Name) → length (name_words n) ≡ 1 + name_size (length n)
+pub length-name : (n : Name) → length (name_words n) ≡ 1 + name_size (length n)
 length-name n = let l = length-chunks (name_size (length n)) 0 n in omega arith
 
 name_read : (n r : List ℕ) → Short n → name_from (name_words n ++ r) ≡ Some (n, 1 + name_size (length n))

@@ -6,11 +6,10 @@ use Rattle.blocks.specs.Words.{pad, opened, closed}
 use Rattle.blocks.proofs.Joins.{joined_append, length_joined}
 use Rattle.model.specs.Tree.{Name, Entry, Body, dir, file, Node, Tree, body_of, entries, cells, all_cells, with_body}
 use Rattle.model.specs.Tree.{without_node, put_body, put_entry, drop_node}
-use Rattle.machine.proofs.Fits.{entries-append}
 use Rattle.machine.specs.State.{entry_count}
 use Rattle.machine.specs.Tables.{kind_of, count_of, entries_in, cells_in, node_row, entry_row, node_words, node_entries}
 use Rattle.machine.specs.Tables.{entry_words, node_cells, cell_words, sum_words}
-use Rattle.machine.proofs.Tables.{length-nodes, length-entries, length-sums, cells_are}
+use Rattle.machine.proofs.Tables.{length-nodes, length-entries, length-sums, entries-append, cells_are}
 use Rattle.tables.specs.Lookup.{Place}
 use Rattle.tables.specs.Edits.{Tables, shifted, lowered, counted, nodes_after, entered, left, grown, cut, added, gone}
 use Rattle.tables.specs.Stands.{Holds, Stands}

@@ -5,10 +5,9 @@ use Rattle.std.proofs.lemmas.List.{drop_more, take-append-drop, length-take-le, 
 use Rattle.blocks.specs.Words.{closed}
 use Rattle.blocks.proofs.Words.{length-pad}
 use Rattle.model.specs.Tree.{dir, Node, Tree, all_cells}
-use Rattle.machine.proofs.Fits.{entries-append}
 use Rattle.machine.specs.State.{entry_count}
 use Rattle.machine.specs.Tables.{entries_in, cells_in, node_words, sum_words, entry_words, cell_words}
-use Rattle.machine.proofs.Tables.{length-nodes, length-sums, length-entries, cells_are}
+use Rattle.machine.proofs.Tables.{length-nodes, length-sums, length-entries, entries-append, cells_are}
 use Rattle.tables.specs.Lookup.{row_entries, row_cells, Place}
 use Rattle.tables.specs.Edits.{Tables}
 use Rattle.tables.specs.Stands.{Holds, Stands, Bounds, Within}

@@ -1,6 +1,7 @@
 -- An item with one name, a word more, and another name.
 use Rattle.std.proofs.Common.{◌≡◌, ℕ, ◌+◌, ◌-◌, List, ◌∷◌, ◌++◌, length, drop, ap, ◌∙◌, ap₂, arith, length-append, length-drop, length-set}
-use Rattle.journal.proofs.ItemWords.{length-name, put_two}
+use Rattle.machine.proofs.JournalWords.{length-name}
+use Rattle.journal.proofs.ItemWords.{put_two}
 use Rattle.journal.proofs.write.put_rename.Goals as goal
 
 pub returns : goal.returns
