@@ -6,7 +6,7 @@ usage: respell.py table      reads crates/ and writes the table of names, tools/
        respell.py            applies the table to crates/, at the top of a repository on which port.py was run
 
 Names that Rattle makes for goals and for steps of a proof are left alone, as are strings, comments (but for names in backticks) and
-the code of src/. A name that would fall together with another stands in the table as it is, and `table` says so.
+the code of src/. `table` says which names would fall together: APART tells those from one another.
 """
 
 import collections
