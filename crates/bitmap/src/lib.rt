@@ -170,33 +170,27 @@ pub fn clear_all(map: &mut [u64])
 }
 
 // The lowest clear bit is the first free one, and taking it leaves one clear bit fewer, none of them lower.
-pub fn lowest_is_free() -> u8
+pub fn lowest_is_free()
     ensures first { FreeFirst }
     ensures rises { LowestRises }
     ensures count { CountRises }
-{
-    0
-}
+{}
 
 // Bits that do not fill the last word are followed by zeros, which nobody sees.
-pub fn padding_unseen() -> u8
+pub fn padding_unseen()
     ensures count { CountPadded }
     ensures free { FreePadded }
     ensures below { FreeBelow }
     ensures marked { MarkedPadded }
     ensures unmarked { UnmarkedPadded }
     ensures both { BothPadded }
-{
-    0
-}
+{}
 
 // Words are pinned by their bits, so that a caller can say exactly which words a map has.
-pub fn words_exact() -> u8
+pub fn words_exact()
     ensures padded { WordsPadded }
     ensures pinned { WordsPinned }
     ensures answers { AnswersExact }
     ensures changes { ChangesExact }
     ensures empty { EmptyExact }
-{
-    0
-}
+{}

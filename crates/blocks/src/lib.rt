@@ -4,11 +4,10 @@
 ghost use Rattle.blocks.specs.Laws.{StringBack, TableBack, BlockAt, BitsBack};
 
 // What is written as words, as blocks and as bits is read back.
-pub fn reads_back() -> u8
+pub fn reads_back()
     ensures strings { StringBack }
     ensures tables { TableBack }
     ensures blocks { BlockAt }
     ensures bits { BitsBack }
 {
-    0
 }

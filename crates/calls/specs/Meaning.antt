@@ -1,11 +1,12 @@
 -- What the code's calls, answers and refusals stand for in the model. Definitions only.
-use Rattle.std.specs.Prelude.{ℕ, cond, Some, None, Option, ◌==◌}
+use Rattle.std.specs.Prelude.{ℕ, ◌≡◌, cond, Some, None, Option, ◌==◌, Result, MatchResult}
 use Rattle.calls.specs.declared.Call.{Call as CodeCall}
 use Rattle.calls.specs.declared.Call.TheVariants.{Find, MakeFile, MakeDir, Remove, Rename, List, Size, Read, Write, Resize, SyncFile}
 use Rattle.calls.specs.declared.Call.TheVariants.{SyncTree, Garbled}
 use Rattle.calls.specs.declared.Answer.{Answer as CodeAnswer}
 use Rattle.calls.specs.declared.Answer.TheVariants.{Refused, Done, Number, Entry, Block}
 use Rattle.calls.specs.declared.Refusal.{Refusal}
+use Rattle.calls.specs.declared.UnknownRefusal.{UnknownRefusal}
 use Rattle.calls.specs.declared.Refusal.TheVariants.{NoCall, OutOfRange, NoDirectory, NoFile, NoEntry, NameTaken, InTheWay, NoRoom}
 use Rattle.calls.specs.declared.Refusal.TheVariants.{TooManyOlder, NoPlace}
 use Rattle.model.specs.Calls.{Call, find, make_file, make_dir, remove, rename, list, size, read, write, resize, sync_file, sync_tree}
@@ -30,6 +31,12 @@ refusal_from_number k =
     (cond (k == 4) (Some NoFile) (cond (k == 5) (Some NoEntry) (cond (k == 6) (Some NameTaken)
     (cond (k == 7) (Some InTheWay) (cond (k == 8) (Some NoRoom) (cond (k == 9) (Some TooManyOlder)
     (cond (k == 10) (Some NoPlace) None)))))))))
+
+-- the refusal with a number, or that there is none
+abbrev pub RefusalRead : ℕ → Result Refusal UnknownRefusal → Type 0
+RefusalRead n r =
+    MatchResult r (λ refusal. refusal_from_number n ≡ Some refusal)
+    (λ e. (e.0 ≡ n) × (refusal_from_number n ≡ None))
 
 abbrev pub call_of : CodeCall → Call
 call_of (Find d n) = find d n.now

@@ -1,11 +1,16 @@
-// Calls, answers and refusals as the code has them. specs/Meaning.antt says what each stands for in the model.
+// Calls, answers, refusals and limits as the code has them. specs/Meaning.antt says what each stands for in the model.
 #![tactic(auto)]
 
 ghost use Rattle.std.specs.Prelude.{◌≡◌};
-ghost use Rattle.calls.specs.Meaning.{refusal_number, refusal_from_number};
+ghost use Rattle.calls.specs.Meaning.{refusal_number, RefusalRead};
+
+use std::error::Error;
+use std::fmt;
+
+pub mod kind;
 
 // A call: directories and files go by their ids, names are bytes.
-#[derive(Clone, Copy)]
+#[derive(Clone, Copy, Debug, PartialEq, Eq)]
 pub enum Call<'a> {
     // directory, name
     Find(u64, &'a [u8]),
@@ -35,7 +40,7 @@ pub enum Call<'a> {
 }
 
 // Why a call is refused, in the order in which the reasons are asked.
-#[derive(Clone, Copy)]
+#[derive(Clone, Copy, Debug, PartialEq, Eq)]
 pub enum Refusal {
     // bytes that are no call
     NoCall,
@@ -58,7 +63,7 @@ pub enum Refusal {
 }
 
 // What a call answers.
-#[derive(Clone, Copy)]
+#[derive(Clone, Copy, Debug, PartialEq, Eq)]
 pub enum Answer<'a> {
     // why, and at which place
     Refused(Refusal, u64),
@@ -70,12 +75,25 @@ pub enum Answer<'a> {
     Block(&'a [u8]),
 }
 
-impl Refusal {
+// The sizes that a volume is opened with: how many cells may be held, how many nodes the newest tree may have, and how many older
+// trees there may be.
+#[derive(Clone, Copy, Debug, PartialEq, Eq)]
+pub struct Limits {
+    pub cells: u64,
+    pub nodes: u64,
+    pub older: u64,
+}
+
+// A number that no refusal has.
+#[derive(Clone, Copy, Debug, PartialEq, Eq)]
+pub struct UnknownRefusal(pub u8);
+
+impl From<Refusal> for u8 {
     // Its number in the list of refusals.
-    pub fn number(self) -> u8
-        ensures { result ≡ refusal_number self }
-    {
-        match self {
+    ghost from_gives = { λ refusal r. r ≡ refusal_number refusal };
+
+    fn from(refusal: Refusal) -> u8 {
+        match refusal {
             Refusal::NoCall => 1,
             Refusal::OutOfRange => 2,
             Refusal::NoDirectory => 3,
@@ -88,23 +106,35 @@ impl Refusal {
             Refusal::NoPlace => 10,
         }
     }
+}
+
+impl TryFrom<u8> for Refusal {
+    type Error = UnknownRefusal;
 
     // The refusal with a number, if there is one.
-    pub fn from_number(number: u8) -> Option<Refusal>
-        ensures { result ≡ refusal_from_number number }
-    {
+    ghost try_from_gives = { RefusalRead };
+
+    fn try_from(number: u8) -> Result<Refusal, UnknownRefusal> {
         match number {
-            1 => Some(Refusal::NoCall),
-            2 => Some(Refusal::OutOfRange),
-            3 => Some(Refusal::NoDirectory),
-            4 => Some(Refusal::NoFile),
-            5 => Some(Refusal::NoEntry),
-            6 => Some(Refusal::NameTaken),
-            7 => Some(Refusal::InTheWay),
-            8 => Some(Refusal::NoRoom),
-            9 => Some(Refusal::TooManyOlder),
-            10 => Some(Refusal::NoPlace),
-            _ => None,
+            1 => Ok(Refusal::NoCall),
+            2 => Ok(Refusal::OutOfRange),
+            3 => Ok(Refusal::NoDirectory),
+            4 => Ok(Refusal::NoFile),
+            5 => Ok(Refusal::NoEntry),
+            6 => Ok(Refusal::NameTaken),
+            7 => Ok(Refusal::InTheWay),
+            8 => Ok(Refusal::NoRoom),
+            9 => Ok(Refusal::TooManyOlder),
+            10 => Ok(Refusal::NoPlace),
+            _ => Err(UnknownRefusal(number)),
         }
     }
 }
+
+impl fmt::Display for UnknownRefusal {
+    fn fmt<W: fmt::Write>(&self, f: &mut fmt::Formatter<W>) -> fmt::Result {
+        write!(f, "no refusal has the number {}", self.0)
+    }
+}
+
+impl Error for UnknownRefusal {}

@@ -8,85 +8,61 @@ ghost use Rattle.codec.specs.Promises.{RefusalsNumbered, AnswersCarried, OnlyAns
 ghost use Rattle.codec.specs.Promises.{AnswersToldApart, AnswersAreBytes};
 
 // Each call that bytes can carry is read back from its bytes.
-pub fn calls_carried() -> u8
+pub fn calls_carried()
     ensures { CallsCarried }
-{
-    0
-}
+{}
 
 // Where a call is read, the bytes are its bytes.
-pub fn only_calls_read() -> u8
+pub fn only_calls_read()
     ensures { OnlyCallsRead }
-{
-    0
-}
+{}
 
 // Bytes that are read as garbled are no call's.
-pub fn garbled_is_no_call() -> u8
+pub fn garbled_is_no_call()
     ensures { GarbledIsNoCall }
-{
-    0
-}
+{}
 
 // The garbled place is the length of the longest front with which some call's bytes begin.
-pub fn garbled_at_longest_front() -> u8
+pub fn garbled_at_longest_front()
     ensures { GarbledAtLongestFront }
-{
-    0
-}
+{}
 
 // Two different calls have different bytes.
-pub fn calls_told_apart() -> u8
+pub fn calls_told_apart()
     ensures { CallsToldApart }
-{
-    0
-}
+{}
 
 // A call's bytes are bytes.
-pub fn calls_are_bytes() -> u8
+pub fn calls_are_bytes()
     ensures { CallsAreBytes }
-{
-    0
-}
+{}
 
 // What is read is readable, garbled or not.
-pub fn read_is_readable() -> u8
+pub fn read_is_readable()
     ensures { ReadIsReadable }
-{
-    0
-}
+{}
 
 // Each refusal goes by its number.
-pub fn refusals_numbered() -> u8
+pub fn refusals_numbered()
     ensures { RefusalsNumbered }
-{
-    0
-}
+{}
 
 // Each answer that bytes can carry is read back from its bytes.
-pub fn answers_carried() -> u8
+pub fn answers_carried()
     ensures { AnswersCarried }
-{
-    0
-}
+{}
 
 // Where an answer is read, the bytes are its bytes.
-pub fn only_answers_read() -> u8
+pub fn only_answers_read()
     ensures { OnlyAnswersRead }
-{
-    0
-}
+{}
 
 // Two different answers have different bytes.
-pub fn answers_told_apart() -> u8
+pub fn answers_told_apart()
     ensures { AnswersToldApart }
-{
-    0
-}
+{}
 
 // An answer's bytes are bytes.
-pub fn answers_are_bytes() -> u8
+pub fn answers_are_bytes()
     ensures { AnswersAreBytes }
-{
-    0
-}
+{}

@@ -11,8 +11,6 @@ pub mod read;
 pub mod write;
 
 // What is appended is read back.
-pub fn reads_back() -> u8
+pub fn reads_back()
     ensures { ItemBack }
-{
-    0
-}
+{}

@@ -237,8 +237,6 @@ pub fn split_line(text: &[u8]) -> (&[u8], &[u8])
 }
 
 // A stage that can do no call answers as the model says.
-pub fn answers_as_the_model() -> u8
+pub fn answers_as_the_model()
     ensures { AsTheModel }
-{
-    0
-}
+{}

@@ -2,71 +2,51 @@
 ghost use Rattle.tables.specs.EditLaws.{PutEntry, DropEntry, AddNode, DropNode, DropSums, Grow, Cut, Make, Remove, Rename};
 
 // A directory with one entry more.
-pub fn put_entry() -> u8
+pub fn put_entry()
     ensures { PutEntry }
-{
-    0
-}
+{}
 
 // A directory with one entry fewer.
-pub fn drop_entry() -> u8
+pub fn drop_entry()
     ensures { DropEntry }
-{
-    0
-}
+{}
 
 // A node more.
-pub fn add_node() -> u8
+pub fn add_node()
     ensures { AddNode }
-{
-    0
-}
+{}
 
 // A node fewer.
-pub fn drop_node() -> u8
+pub fn drop_node()
     ensures { DropNode }
-{
-    0
-}
+{}
 
 // The sums of a node that goes, lowered before its row goes.
-pub fn drop_sums() -> u8
+pub fn drop_sums()
     ensures { DropSums }
-{
-    0
-}
+{}
 
 // A file with more cells.
-pub fn grow() -> u8
+pub fn grow()
     ensures { Grow }
-{
-    0
-}
+{}
 
 // A file with its first cells only.
-pub fn cut() -> u8
+pub fn cut()
     ensures { Cut }
-{
-    0
-}
+{}
 
 // A node made.
-pub fn make() -> u8
+pub fn make()
     ensures { Make }
-{
-    0
-}
+{}
 
 // A node removed.
-pub fn remove() -> u8
+pub fn remove()
     ensures { Remove }
-{
-    0
-}
+{}
 
 // A node renamed.
-pub fn rename() -> u8
+pub fn rename()
     ensures { Rename }
-{
-    0
-}
+{}

@@ -2,8 +2,6 @@
 ghost use Rattle.tables.specs.Append.{AppendItem};
 
 // An item more in the journal.
-pub fn append_item() -> u8
+pub fn append_item()
     ensures { AppendItem }
-{
-    0
-}
+{}

@@ -201,10 +201,8 @@ pub fn print_word(out: &mut Vec<u8>, bytes: &[u8]) -> Result<(), AllocError>
 }
 
 // What is printed for bytes and for numbers is read back.
-pub fn words_come_back() -> u8
+pub fn words_come_back()
     ensures words { WordsComeBack }
     ensures numbers { NumbersComeBack }
     ensures printable { WordsArePrintable }
-{
-    0
-}
+{}

@@ -1,0 +1,2 @@
+-- Index: calls by number (Numbered)
+mod Numbered
