@@ -1,7 +1,8 @@
 -- Searches row by row: where a row is found and where none is; and by halves among ids that ascend.
-use Rattle.std.proofs.Common.{◌≡◌, ℕ, zero, suc, ◌+◌, ◌<◌, ◌≤◌, Bool, true, false, eqb, List, sym, refl, ap, ◌∙◌, inl, inr, arith}
-use Rattle.std.proofs.lemmas.Bool.{cases_lt, eq-eqb, ne_eqb}
+use Rattle.std.proofs.Common.{◌≡◌, ℕ, zero, suc, ◌+◌, ◌<◌, ◌≤◌, Bool, true, false, eqb, ltb, List, Some, None, sym, refl, ap, ◌∙◌, inl, inr, arith}
+use Rattle.std.proofs.lemmas.Bool.{cases_lt, eq-eqb, ne_eqb, lt-ltb, le-ltb}
 use Rattle.tables.specs.Lookup.{first_row, row_id, row_of, Ascends}
+use Rattle.rows.specs.Found.{found}
 
 -- no row passes before the j-th, and that one does; and none passes at all
 pub first_found : (p : ℕ → Bool) (n k j : ℕ) → j < n → ((i : ℕ) → i < j → p (k + i) ≡ false) → p (k + j) ≡ true →
@@ -49,3 +50,10 @@ row_none id n j ns up less more other = first_none (λ k. eqb id (row_id ns k)) 
 
     apart : (i : ℕ) → i < n → eqb id (row_id ns (0 + i)) ≡ false
     apart i h = let z : 0 + i ≡ i = omega arith in rw z (ne_eqb id (row_id ns i) (differs i h))
+
+-- a search that ended at one of the rows, and one that passed them all
+pub found_at : (n k j : ℕ) → k ≡ j → j < n → found n k ≡ Some j
+found_at n k j e l = let t : ltb j n ≡ true = lt-ltb j n l in rw (e, t) refl
+
+pub found_none : (n k : ℕ) → k ≡ n → found n k ≡ None
+found_none n k e = let t : ltb n n ≡ false = le-ltb n n (omega arith) in rw (e, t) refl

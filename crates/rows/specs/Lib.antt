@@ -1,2 +1,4 @@
+pub mod Kinds
 pub mod Places
 pub mod Entries
+pub mod Found

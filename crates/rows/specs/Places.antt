@@ -1,16 +1,9 @@
 -- A node's place, and how much of the tables is in use, as code has them and as the tables' definitions do. Definitions only.
-use Rattle.std.specs.Prelude.{ℕ}
 use Rattle.machine.specs.State.{Counts}
 use Rattle.tables.specs.Lookup as lookup
-use Rattle.rows.specs.declared.nodes.Kind.{Kind}
-use Rattle.rows.specs.declared.nodes.Kind.TheVariants.{Dir, File}
+use Rattle.rows.specs.Kinds.{kind_number}
 use Rattle.rows.specs.declared.nodes.Place.{Place}
 use Rattle.rows.specs.declared.used.Used.{Used}
-
--- the number that the table has for a kind
-abbrev pub kind_number : Kind → ℕ
-kind_number Dir = 0
-kind_number File = 1
 
 abbrev pub place_in : Place → lookup.Place
 place_in p =

@@ -6,9 +6,10 @@ ghost use Rattle.model.specs.Tree.{same};
 ghost use Rattle.tables.specs.Lookup.{entry_id, name_row};
 ghost use Rattle.machine.specs.Tables.{entry_from};
 ghost use Rattle.rows.specs.Entries.{entry_in};
+ghost use Rattle.rows.specs.Found.{found};
 
 // An entry by value: the id that a name is given to, and the name, the first `len` bytes of `name`.
-#[derive(Clone, Copy)]
+#[derive(Clone, Copy, Debug, PartialEq, Eq)]
 pub struct Entry {
     pub id: u64,
     pub len: usize,
@@ -33,13 +34,13 @@ pub fn entry_id(entries: &[u64], row: usize) -> u64
     entries[16 * row]
 }
 
-// The bytes of eight words.
-fn bytes_of(words: &[u64]) -> [u8; 64]
-    requires { length words.now ≡ 8 }
-    ensures { result ≡ flat_map (bytes_of 8) words.now }
+// The bytes of up to eight words, at the front.
+pub fn bytes_of(words: &[u64]) -> [u8; 64]
+    requires { length words.now ≤ 8 }
+    ensures { take (8 * length words.now) result ≡ flat_map (bytes_of 8) words.now }
 {
     let mut bytes = [0; 64];
-    for k in 0..8 {
+    for k in 0..words.len() {
         bytes[8 * k..8 * k + 8].copy_from_slice(&words[k].to_le_bytes());
     }
     bytes
@@ -74,18 +75,16 @@ fn same_words(a: &[u64], b: &[u64]) -> bool
     a == b
 }
 
-// Which of a directory's `count` entries, from row `first` on, is the first with a key; `count` where none is.
-pub fn find_name(entries: &[u64], first: usize, count: usize, key: &[u64]) -> usize
+// Which of a directory's `count` entries, from row `first` on, is the first with a key.
+pub fn find_name(entries: &[u64], first: usize, count: usize, key: &[u64]) -> Option<usize>
     requires { 16 * (first + count) ≤ length entries.now }
-    ensures { result ≡ name_row key.now count first entries.now }
+    ensures { result ≡ found count (name_row key.now count first entries.now) }
 {
-    let mut found = count;
-    'rows: for k in 0..count {
+    for k in 0..count {
         let at = 16 * (first + k) + 1;
         if same_words(key, &entries[at..at + 9]) {
-            found = k;
-            break 'rows;
+            return Some(k);
         }
     }
-    found
+    None
 }

@@ -1,17 +1,60 @@
 // The table of nodes, four words each, with that of sums: a node by its id, and what the two say of it.
 ghost use Rattle.std.specs.Prelude.{◌≡◌, ◌+◌, ◌*◌, ◌≤◌, length};
 ghost use Rattle.tables.specs.Lookup.{row_kind, row_of, Ascends, place_at};
+ghost use Rattle.rows.specs.Kinds.{kind_number, KindRead};
 ghost use Rattle.rows.specs.Places.{place_in};
+ghost use Rattle.rows.specs.Found.{found};
 
-// What a node is. Its number in the table is 0 for a directory and 1 for a file.
-#[derive(Clone, Copy)]
+use std::error::Error;
+use std::fmt;
+
+// What a node is.
+#[derive(Clone, Copy, Debug, PartialEq, Eq)]
 pub enum Kind {
     Dir,
     File,
 }
 
+// A word of the table that is no node's kind.
+#[derive(Clone, Copy, Debug, PartialEq, Eq)]
+pub struct UnknownKind(pub u64);
+
+impl From<Kind> for u64 {
+    // The number that the table has for a kind.
+    ghost from_gives = { λ kind r. r ≡ kind_number kind };
+
+    fn from(kind: Kind) -> u64 {
+        match kind {
+            Kind::Dir => 0,
+            Kind::File => 1,
+        }
+    }
+}
+
+impl TryFrom<u64> for Kind {
+    type Error = UnknownKind;
+
+    ghost try_from_gives = { KindRead };
+
+    fn try_from(word: u64) -> Result<Kind, UnknownKind> {
+        match word {
+            0 => Ok(Kind::Dir),
+            1 => Ok(Kind::File),
+            _ => Err(UnknownKind(word)),
+        }
+    }
+}
+
+impl fmt::Display for UnknownKind {
+    fn fmt<W: fmt::Write>(&self, f: &mut fmt::Formatter<W>) -> fmt::Result {
+        write!(f, "no kind of nodes has the number {}", self.0)
+    }
+}
+
+impl Error for UnknownKind {}
+
 // All that the two tables say of a node: its row, how many entries or cells it has, and where its entries and its cells begin.
-#[derive(Clone, Copy)]
+#[derive(Clone, Copy, Debug, PartialEq, Eq)]
 pub struct Place {
     pub row: usize,
     pub kind: Kind,
@@ -27,24 +70,20 @@ pub fn place_at(nodes: &[u64], sums: &[u64], row: usize) -> Place
     requires kind { row_kind nodes.now row ≤ 1 }
     ensures { place_in result ≡ place_at row nodes.now sums.now }
 {
-    let kind = match nodes[4 * row + 1] {
-        0 => Kind::Dir,
-        _ => Kind::File,
-    };
     Place {
         row,
-        kind,
+        kind: Kind::try_from(nodes[4 * row + 1]).unwrap(),
         count: nodes[4 * row + 2] as usize,
         entries: sums[2 * row] as usize,
         cells: sums[2 * row + 1] as usize,
     }
 }
 
-// The row of an id, by halves, since ids ascend; `rows` where no row has it.
-pub fn find_row(nodes: &[u64], rows: usize, id: u64) -> usize
+// The row of an id, by halves, since ids ascend.
+pub fn find_row(nodes: &[u64], rows: usize, id: u64) -> Option<usize>
     requires inside { 4 * rows ≤ length nodes.now }
     requires ascend { Ascends rows nodes.now }
-    ensures { result ≡ row_of id rows nodes.now }
+    ensures { result ≡ found rows (row_of id rows nodes.now) }
 {
     let mut low = 0;
     let mut high = rows;
@@ -57,8 +96,8 @@ pub fn find_row(nodes: &[u64], rows: usize, id: u64) -> usize
         }
     }
     if low < rows && nodes[4 * low] == id {
-        low
+        Some(low)
     } else {
-        rows
+        None
     }
 }

@@ -1,5 +1,5 @@
--- Each turn writes the bytes of one word more; eight words are all.
-use Rattle.std.proofs.Common.{◌≡◌, ◌*◌, take, sym, ap, ◌∙◌, arith, rules}
+-- Each turn writes the bytes of one word more.
+use Rattle.std.proofs.Common.{◌≡◌, ◌*◌, length, take, sym, ap, ◌∙◌, arith, rules}
 use Rattle.std.specs.List.{flat_map}
 use Rattle.std.proofs.lemmas.List.{take_all, places}
 use Rattle.blocks.specs.Words.{bytes_of}
@@ -16,6 +16,6 @@ loop-k-preserved c = (
 pub returns : goal.returns
 returns c =
     let k = c.loop-k.k in
-    let a : take (8 * k) c.loop-k.bytes ≡ c.loop-k.bytes = take_all (8 * k) c.loop-k.bytes (omega arith) in
+    let e : k ≡ length c.args.words.now = omega arith in
     let b : take k c.args.words.now ≡ c.args.words.now = take_all k c.args.words.now (omega arith) in
-    sym a ∙ (c.loop-k.invariant.1 ∙ ap (flat_map (bytes_of 8)) b)
+    ap (λ i. take (8 * i) c.loop-k.bytes) (sym e) ∙ (c.loop-k.invariant.1 ∙ ap (flat_map (bytes_of 8)) b)

@@ -4,5 +4,5 @@ use Rattle.tables.specs.Lookup.{entry_key}
 use Rattle.rows.proofs.entries.find_name.Given as goal
 
 -- no row so far has the key
-abbrev pub invariant-rows : goal.invariant-rows
-invariant-rows l = ((j : ℕ) → j < l.k → same l.key (entry_key l.entries (l.first + j)) ≡ false) × (l.found ≡ l.count)
+abbrev pub invariant-loop-k : goal.invariant-loop-k
+invariant-loop-k l = (j : ℕ) → j < l.k → same l.key (entry_key l.entries (l.first + j)) ≡ false
