@@ -9,5 +9,4 @@ pub fn reads_back()
     ensures tables { TableBack }
     ensures blocks { BlockAt }
     ensures bits { BitsBack }
-{
-}
+{}
