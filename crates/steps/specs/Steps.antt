@@ -1,5 +1,5 @@
 -- What a step means for a tree whose tables were asked, and what a check tells. Definitions only.
-use Rattle.std.specs.Prelude.{◌≡◌, ℕ, suc, ◌+◌, ◌*◌, ◌<◌, ◌≤◌, Bool, true, false, List, [], ◌∷◌, length, get_or, drop, Ok, Err, Result, ◌≢◌, slice_index, slice_index_or}
+use Rattle.std.specs.Prelude.{◌≡◌, ℕ, suc, ◌+◌, ◌*◌, ◌<◌, ◌≤◌, Bool, true, false, List, [], ◌∷◌, length, get_or, drop, Ok, Err, Result, MatchResult, ◌≢◌, slice_index, slice_index_or}
 use Rattle.model.specs.Tree.{Name, Tree, body_of, entries, cells, named, is_file, holds}
 use Rattle.model.specs.Calls as calls
 use Rattle.model.specs.Calls.{Call}
@@ -197,3 +197,10 @@ abbrev pub ToldByState : State → ℕ → Call → Result Step Refusal → Type
 ToldByState a held c r =
     (s : Stage) (t : Tree) → Sound (limits_of s a.room.limits) (words a.tree.view) t →
     Tells (limits_of s a.room.limits) (words a.tree.view) t a.room.older held c r
+
+-- what is told of a place of a file by the tables alone: why it cannot be read, or its data block
+abbrev pub BlockTold : Tables → ℕ → ℕ → Result ℕ Refusal → Type 0
+BlockTold T i o r =
+    (l : Limits) (t : Tree) (older held : ℕ) → Sound l T t →
+    MatchResult r (λ b. (refusal_by l t older held (calls.read i o) ≡ 0) × Reads t (calls.read i o) b)
+    (λ e. refusal_by l t older held (calls.read i o) ≡ refusal_number e)
