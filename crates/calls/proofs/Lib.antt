@@ -1,2 +1,2 @@
 -- Index: calls by number (Numbered)
-mod Numbered
+pub mod Numbered

@@ -4,6 +4,7 @@ use Rattle.std.proofs.lemmas.Bool.{lt-ltb, le-ltb, eq-eqb, ne_eqb}
 use Rattle.model.specs.Tree.{Tree, body_of, is_dir, is_file, entries, cells}
 use Rattle.model.specs.Calls.{list, size, read, write, resize, sync_file}
 use Rattle.model.specs.Refusals.{Limits, may_change, refusal_by}
+use Rattle.steps.specs.Steps.{Reads, Writes}
 
 module _ (l : Limits) (t : Tree) (older held : ℕ) where
   -- entries listed
@@ -82,3 +83,10 @@ module _ (l : Limits) (t : Tree) (older held : ℕ) where
           pub resize_done : leb (held + (n - k)) l.room ≡ true → ltb older l.pending ≡ true →
               refusal_by l t older held (resize i n) ≡ 0
           resize_done g p = resize_other ∙ (rw g (rw p))
+
+-- a place and its data block, read as well as written
+pub write_place : (t : Tree) (i o b : ℕ) (x : List ℕ) → Reads t (read i o) b → Writes t (write i o x) b x
+write_place t i o b x r = record { id = r.id; at = r.at; is = same r.id r.at r.is; below = r.below; block = r.block }
+  where
+    same : (j p : ℕ) → read i o ≡ read j p → write i o x ≡ write j p x
+    same j p e = cc

@@ -1,127 +1,90 @@
 // Entries listed, files read, written, resized and synced: what is asked first, or the step.
-ghost use Rattle.std.specs.Prelude.{◌≡◌, ℕ, ◌+◌, ◌-◌, nat_le};
-ghost use Rattle.model.specs.Tree as model;
+ghost use Rattle.std.specs.Prelude.{◌≡◌};
 ghost use Rattle.model.specs.Calls as model_calls;
-ghost use Rattle.model.specs.Refusals as refusals;
-ghost use Rattle.steps.specs.declared.limits.Stage as stages;
-ghost use Rattle.lookup.specs.Views.{words, Sound, SomeTree};
-ghost use Rattle.steps.specs.Stages.{limits_of};
-ghost use Rattle.steps.specs.Steps.{Tells};
+ghost use Rattle.lookup.specs.Views.{words};
+ghost use Rattle.steps.specs.Steps.{BlockTold, ToldByTables, ToldByState};
 
 use calls::Refusal;
-use lookup::search::{directory, file};
-use lookup::view::Tree;
+use lookup::tree::Tree;
 use rows::cells::block_of;
-use steps::limits::{Limits, may_change};
+use steps::state::State;
 use steps::step::Step;
 
 // The row of an entry of a directory.
-pub fn list(tree: Tree<'_>, dir: u64, index: u64) -> Result<Step<'static>, Refusal>
-    requires { (l : refusals.Limits) × SomeTree l (words tree) }
-    ensures { (l : refusals.Limits) (t : model.Tree) (older held : ℕ) → Sound l (words tree.entry) t →
-        Tells l (words tree.entry) t older held (model_calls.list dir index) result }
+pub fn list(tree: &Tree<'_>, dir: u64, index: u64) -> Result<Step<'static>, Refusal>
+    ensures { ToldByTables (words tree.now.view) (model_calls.list dir index) result }
 {
-    let Some(place) = directory(tree, dir) else {
-        return Err(Refusal::NoDirectory);
-    };
+    let place = tree.directory(dir).ok_or(Refusal::NoDirectory)?;
     if index >= place.count as u64 {
         return Err(Refusal::NoEntry);
     }
+    let entries = tree.view.entries;
+    prove!(place.entries + place.count <= entries.len());
     Ok(Step::List(place.entries + index as usize))
 }
 
 // How many places a file has.
-pub fn size(tree: Tree<'_>, id: u64) -> Result<Step<'static>, Refusal>
-    requires { (l : refusals.Limits) × SomeTree l (words tree) }
-    ensures { (l : refusals.Limits) (t : model.Tree) (older held : ℕ) → Sound l (words tree.entry) t →
-        Tells l (words tree.entry) t older held (model_calls.size id) result }
+pub fn size(tree: &Tree<'_>, id: u64) -> Result<Step<'static>, Refusal>
+    ensures { ToldByTables (words tree.now.view) (model_calls.size id) result }
 {
-    let Some(place) = file(tree, id) else {
-        return Err(Refusal::NoFile);
-    };
+    let place = tree.file(id).ok_or(Refusal::NoFile)?;
     Ok(Step::Size(place.count))
 }
 
-// The data block of a place of a file, to be read.
-pub fn read(tree: Tree<'_>, id: u64, at: u64) -> Result<Step<'static>, Refusal>
-    requires { (l : refusals.Limits) × SomeTree l (words tree) }
-    ensures { (l : refusals.Limits) (t : model.Tree) (older held : ℕ) → Sound l (words tree.entry) t →
-        Tells l (words tree.entry) t older held (model_calls.read id at) result }
+// The data block of a place of a file.
+fn block_at(tree: &Tree<'_>, id: u64, at: u64) -> Result<u64, Refusal>
+    ensures { BlockTold (words tree.now.view) id at result }
 {
-    let Some(place) = file(tree, id) else {
-        return Err(Refusal::NoFile);
-    };
+    let place = tree.file(id).ok_or(Refusal::NoFile)?;
     if at >= place.count as u64 {
         return Err(Refusal::NoPlace);
     }
-    Ok(Step::Read(block_of(tree.cells, place.cells, at as usize)))
+    Ok(block_of(tree.view.cells, place.cells, at as usize))
+}
+
+// The data block of a place of a file, to be read.
+pub fn read(tree: &Tree<'_>, id: u64, at: u64) -> Result<Step<'static>, Refusal>
+    ensures { ToldByTables (words tree.now.view) (model_calls.read id at) result }
+{
+    let block = block_at(tree, id, at)?;
+    Ok(Step::Read(block))
 }
 
 // The same, to be written.
-pub fn write<'a>(tree: Tree<'_>, id: u64, at: u64, block: &'a [u8]) -> Result<Step<'a>, Refusal>
-    requires { (l : refusals.Limits) × SomeTree l (words tree) }
-    ensures { (l : refusals.Limits) (t : model.Tree) (older held : ℕ) → Sound l (words tree.entry) t →
-        Tells l (words tree.entry) t older held (model_calls.write id at block.now) result }
+pub fn write<'a>(tree: &Tree<'_>, id: u64, at: u64, block: &'a [u8]) -> Result<Step<'a>, Refusal>
+    ensures { ToldByTables (words tree.now.view) (model_calls.write id at block.now) result }
 {
-    let Some(place) = file(tree, id) else {
-        return Err(Refusal::NoFile);
-    };
-    if at >= place.count as u64 {
-        return Err(Refusal::NoPlace);
-    }
-    Ok(Step::Write(block_of(tree.cells, place.cells, at as usize), block))
-}
-
-// May a file of `count` places have so many, by the cells that are held?
-pub fn cells_fit(limits: Limits, held: u64, count: u64, places: u64) -> bool
-    ensures { result ≡ nat_le (held + (places - count)) limits.cells }
-{
-    if places <= count {
-        return held <= limits.cells;
-    }
-    held <= limits.cells && places - count <= limits.cells - held
+    let to = block_at(tree, id, at)?;
+    Ok(Step::Write { to, block })
 }
 
 // A file to have so many places.
-pub fn resize(
-    limits: Limits,
-    tree: Tree<'_>,
-    older: u64,
-    held: u64,
-    id: u64,
-    places: u64,
-) -> Result<Step<'static>, Refusal>
-    requires { (l : refusals.Limits) × SomeTree l (words tree) }
-    ensures { (s : stages.Stage) (t : model.Tree) → Sound (limits_of s limits) (words tree.entry) t →
-        Tells (limits_of s limits) (words tree.entry) t older held (model_calls.resize id places) result }
+pub fn resize(state: &State<'_>, id: u64, places: u64) -> Result<Step<'static>, Refusal>
+    ensures { ToldByState state.now state.now.room.held (model_calls.resize id places) result }
 {
-    let Some(place) = file(tree, id) else {
-        return Err(Refusal::NoFile);
-    };
-    let count = place.count as u64;
+    let file = state.tree.file(id).ok_or(Refusal::NoFile)?;
+    let count = file.count as u64;
     if places == count {
         return Ok(Step::SameSize);
     }
-    if !cells_fit(limits, held, count, places) {
+    if !state.room.cells_fit(count, places) {
         return Err(Refusal::NoRoom);
     }
-    if !may_change(limits, older) {
+    if !state.room.may_change() {
         return Err(Refusal::TooManyOlder);
     }
     if places > count {
-        return Ok(Step::Grow(place, (places - count) as usize));
+        let more = (places - count) as usize;
+        return Ok(Step::Grow { file, more });
     }
-    Ok(Step::Cut(place, places as usize))
+    let kept = places as usize;
+    Ok(Step::Cut { file, kept })
 }
 
 // A file to be synced.
-pub fn sync_file(tree: Tree<'_>, id: u64) -> Result<Step<'static>, Refusal>
-    requires { (l : refusals.Limits) × SomeTree l (words tree) }
-    ensures { (l : refusals.Limits) (t : model.Tree) (older held : ℕ) → Sound l (words tree.entry) t →
-        Tells l (words tree.entry) t older held (model_calls.sync_file id) result }
+pub fn sync_file(tree: &Tree<'_>, id: u64) -> Result<Step<'static>, Refusal>
+    ensures { ToldByTables (words tree.now.view) (model_calls.sync_file id) result }
 {
-    let Some(_) = file(tree, id) else {
-        return Err(Refusal::NoFile);
-    };
+    tree.file(id).ok_or(Refusal::NoFile)?;
     Ok(Step::SyncFile(id))
 }

@@ -6,6 +6,10 @@ use Rattle.model.specs.Refusals.{Limits, making, removing, refusal_by}
 use Rattle.rows.specs.declared.nodes.Kind.{Kind}
 use Rattle.rows.specs.declared.nodes.Kind.TheVariants.{Dir, File}
 use Rattle.tables.specs.Edits.{Tables}
+use Rattle.std.proofs.Common.{Some, None, Option, List, sym, is_some}
+use Rattle.std.proofs.lemmas.Bool.{false≢true}
+use Rattle.lookup.specs.Found.{NameFound}
+use Rattle.lookup.specs.declared.search.Named.{Named}
 use Rattle.lookup.specs.Views.{Sound}
 use Rattle.steps.specs.Steps.{make_call}
 
@@ -29,24 +33,30 @@ module _ (l : Limits) (t : Tree) (older held : ℕ) where
     make_no_dir e = rw e
 
     module _ (e : is_dir (body_of t d) ≡ true) where
-      pub make_taken : (i : ℕ) → named t d n ≡ i ∷ [] → making l t older d n ≡ 6
-      unfolding some_of
-      make_taken i f = rw e (rw f)
+      pub make_taken : some_of (named t d n) ≡ true → making l t older d n ≡ 6
+      make_taken f = rw e (rw f)
 
-      pub make_full : named t d n ≡ [] → (ltb (length t.nodes) l.nodes_most && ltb t.next 4294967295) ≡ false →
-          making l t older d n ≡ 8
-      unfolding some_of
-      make_full f g = rw e (rw f (rw g))
+      module _ (f : some_of (named t d n) ≡ false) where
+        pub make_full : (ltb (length t.nodes) l.nodes_most && ltb t.next 4294967295) ≡ false → making l t older d n ≡ 8
+        make_full g = rw e (rw f (rw g))
 
-      pub make_late : named t d n ≡ [] → (ltb (length t.nodes) l.nodes_most && ltb t.next 4294967295) ≡ true →
-          ltb older l.pending ≡ false → making l t older d n ≡ 9
-      unfolding some_of
-      make_late f g k = rw e (rw f (rw g (rw k)))
+        module _ (g : (ltb (length t.nodes) l.nodes_most && ltb t.next 4294967295) ≡ true) where
+          pub make_late : ltb older l.pending ≡ false → making l t older d n ≡ 9
+          make_late k = rw e (rw f (rw g (rw k)))
 
-      pub make_done : named t d n ≡ [] → (ltb (length t.nodes) l.nodes_most && ltb t.next 4294967295) ≡ true →
-          ltb older l.pending ≡ true → making l t older d n ≡ 0
-      unfolding some_of
-      make_done f g k = rw e (rw f (rw g (rw k)))
+          pub make_done : ltb older l.pending ≡ true → making l t older d n ≡ 0
+          make_done k = rw e (rw f (rw g (rw k)))
+
+-- is a name there, by what was found
+pub taken_by : (t : Tree) (d : ℕ) (n : Name) (r : Option Named) → NameFound t d n r → some_of (named t d n) ≡ is_some r
+unfolding some_of
+taken_by t d n None f = rw f
+taken_by t d n (Some e) f = rw f.1
+
+pub not_there : (ids : List ℕ) → some_of ids ≡ false → ids ≡ []
+unfolding some_of
+not_there [] e = refl
+not_there (i ∷ is) e = absurd (false≢true (sym e))
 
 -- a directory or a file
 pub make_either : (l : Limits) (t : Tree) (older held : ℕ) (k : Kind) (d : ℕ) (n : Name) →

@@ -1,69 +1,50 @@
 // Names found and nodes made: what is asked first, or the step.
-ghost use Rattle.std.specs.Prelude.{◌≡◌, ℕ, true, ◌&&◌, nat_lt};
-ghost use Rattle.model.specs.Tree as model;
+ghost use Rattle.std.specs.Prelude.{◌≡◌, ℕ, true};
 ghost use Rattle.model.specs.Calls as model_calls;
 ghost use Rattle.model.specs.Calls.{good_name};
-ghost use Rattle.model.specs.Refusals as refusals;
-ghost use Rattle.steps.specs.declared.limits.Stage as stages;
-ghost use Rattle.lookup.specs.Views.{words, Sound, SomeTree};
-ghost use Rattle.steps.specs.Stages.{limits_of};
-ghost use Rattle.steps.specs.Steps.{make_call, Tells};
+ghost use Rattle.lookup.specs.Views.{words};
+ghost use Rattle.steps.specs.Steps.{make_call, ToldByTables, ToldByState};
 
 use calls::Refusal;
-use lookup::search::{directory, name_in};
-use lookup::view::Tree;
+use lookup::tree::Tree;
 use rows::nodes::Kind;
-use steps::limits::{Limits, may_change};
+use steps::state::State;
 use steps::step::Step;
 
 // The id that a name has.
-pub fn find(tree: Tree<'_>, dir: u64, name: &[u8]) -> Result<Step<'static>, Refusal>
-    requires tree { (l : refusals.Limits) × SomeTree l (words tree) }
-    requires name { good_name name.now ≡ true }
-    ensures { (l : refusals.Limits) (t : model.Tree) (older held : ℕ) → Sound l (words tree.entry) t →
-        Tells l (words tree.entry) t older held (model_calls.find dir name.now) result }
+pub fn find(tree: &Tree<'_>, dir: u64, name: &[u8]) -> Result<Step<'static>, Refusal>
+    requires { good_name name.now ≡ true }
+    ensures { ToldByTables (words tree.now.view) (model_calls.find dir name.now) result }
 {
-    let Some(place) = directory(tree, dir) else {
-        return Err(Refusal::NoDirectory);
-    };
-    let Some((_, id)) = name_in(tree, place, name) else {
-        return Err(Refusal::NoEntry);
-    };
-    Ok(Step::Find(id))
-}
-
-// Is there room for one more node, and an id?
-pub fn has_room(limits: Limits, tree: Tree<'_>) -> bool
-    ensures { result ≡ (nat_lt tree.entry.used.nodes limits.nodes && nat_lt tree.entry.used.next 4294967295) }
-{
-    (tree.used.nodes as u64) < limits.nodes && tree.used.next < 4294967295
+    let place = tree.directory(dir).ok_or(Refusal::NoDirectory)?;
+    let entry = tree.view.name_in(place, name).ok_or(Refusal::NoEntry)?;
+    Ok(Step::Find(entry.id))
 }
 
 // A node made in a directory.
 pub fn make<'a>(
-    limits: Limits,
-    tree: Tree<'_>,
-    older: u64,
+    state: &State<'_>,
     kind: Kind,
     dir: u64,
     name: &'a [u8],
 ) -> Result<Step<'a>, Refusal>
-    requires tree { (l : refusals.Limits) × SomeTree l (words tree) }
-    requires name { good_name name.now ≡ true }
-    ensures { (s : stages.Stage) (t : model.Tree) (held : ℕ) → Sound (limits_of s limits) (words tree.entry) t →
-        Tells (limits_of s limits) (words tree.entry) t older held (make_call kind dir name.now) result }
+    requires { good_name name.now ≡ true }
+    ensures { (held : ℕ) → ToldByState state.now held (make_call kind dir name.now) result }
 {
-    let Some(place) = directory(tree, dir) else {
-        return Err(Refusal::NoDirectory);
-    };
-    if let Some(_) = name_in(tree, place, name) {
+    let tree = &state.tree;
+    let place = tree.directory(dir).ok_or(Refusal::NoDirectory)?;
+    if tree.view.name_in(place, name).is_some() {
         return Err(Refusal::NameTaken);
     }
-    if !has_room(limits, tree) {
+    if !state.room.has_room(&tree.view.used) {
         return Err(Refusal::NoRoom);
     }
-    if !may_change(limits, older) {
+    if !state.room.may_change() {
         return Err(Refusal::TooManyOlder);
     }
-    Ok(Step::Make(kind, place, name))
+    Ok(Step::Make {
+        kind,
+        dir: place,
+        name,
+    })
 }

@@ -1,5 +1,7 @@
 -- The small tree of the tests, and its limits. Definitions only.
-use Rattle.std.specs.Prelude.{ℕ, [], ◌∷◌}
+use Rattle.std.specs.Prelude.{ℕ, [], ◌∷◌, Option, Some, None}
+use Rattle.calls.specs.declared.Refusal.{Refusal}
+use Rattle.calls.specs.Meaning.{refusal_number}
 use Rattle.model.specs.Promise.{all}
 use Rattle.model.specs.Tree.{Entry, Body, dir, file, Node, Tree}
 use Rattle.model.specs.Refusals.{Limits}
@@ -21,3 +23,8 @@ small_tree = record {
 
 abbrev pub limits : Limits
 limits = record { calls_can = all; room = 6; nodes_most = 4; pending = 2 }
+
+-- the number of a reason, or 0 where there is none
+abbrev pub reason_number : Option Refusal → ℕ
+reason_number None = 0
+reason_number (Some e) = refusal_number e

@@ -3,13 +3,15 @@
 ghost use Rattle.std.specs.Prelude.{◌≡◌};
 ghost use Rattle.model.specs.Refusals.{refusal};
 ghost use Rattle.calls.specs.Meaning.{call_of};
-ghost use Rattle.check_tests.specs.Board.{limits, small_tree};
+ghost use Rattle.check_tests.specs.Board.{limits, small_tree, reason_number};
 
-use calls::Call;
+use calls::{Call, Limits, Refusal};
 use check_calls::check::check;
-use lookup::view::Tree;
+use lookup::tree::Tree;
+use lookup::view::View;
 use rows::used::Used;
-use steps::limits::{Limits, Stage};
+use steps::stage::Stage;
+use steps::state::{Room, State};
 
 // Four words a node: id, kind (0 a directory, 1 a file), how many entries or cells, zero.
 const NODES: [u64; 16] = [0, 0, 2, 0, 1, 1, 2, 0, 2, 0, 1, 0, 3, 1, 0, 0];
@@ -26,19 +28,15 @@ const ENTRIES: [u64; 64] = [
 
 const CELLS: [u64; 6] = [3, 5, 0, 0, 0, 0];
 
-// The number of the reason why a call is refused, or 0, where so many older trees are and so many cells are held.
-pub fn reason(older: u64, held: u64, call: Call<'_>) -> u8
-    ensures { result ≡ refusal limits small_tree older held (call_of call.entry) }
+// The reason why a call is refused, or none, where so many older trees are and so many cells are held.
+pub fn reason(older: u64, held: u64, call: Call<'_>) -> Option<Refusal>
+    ensures { reason_number result ≡ refusal limits small_tree older held (call_of call.entry) }
 {
-    let nodes = NODES;
-    let sums = SUMS;
-    let entries = ENTRIES;
-    let cells = CELLS;
-    let tree = Tree {
-        nodes: &nodes,
-        sums: &sums,
-        entries: &entries,
-        cells: &cells,
+    let view = View {
+        nodes: &NODES,
+        sums: &SUMS,
+        entries: &ENTRIES,
+        cells: &CELLS,
         used: Used {
             next: 4,
             nodes: 4,
@@ -46,13 +44,17 @@ pub fn reason(older: u64, held: u64, call: Call<'_>) -> u8
             cells: 2,
         },
     };
-    let limits = Limits {
-        cells: 6,
-        nodes: 4,
-        older: 2,
+    let state = State {
+        tree: Tree { view },
+        room: Room {
+            limits: Limits {
+                cells: 6,
+                nodes: 4,
+                older: 2,
+            },
+            older,
+            held,
+        },
     };
-    match check(limits, Stage::Whole, tree, older, held, call) {
-        Ok(_) => 0,
-        Err(refusal) => refusal.number(),
-    }
+    check(&state, Stage::Whole, call).err()
 }

@@ -2,6 +2,7 @@
 use Rattle.std.proofs.Common.{◌≡◌, ℕ, Bool, true, false, ◌&&◌, ◌||◌, ltb, List, [], ◌∷◌, length, Some, None, Option, sym, refl, ap₂, arith}
 use Rattle.std.proofs.lemmas.Bool.{false≢true, lt-ltb}
 use Rattle.model.specs.Tree.{some_of, Name, Entry, Tree, body_of, is_dir, is_file, named}
+use Rattle.lookup.specs.declared.search.Named.{Named}
 use Rattle.lookup.specs.Found.{NameFound, ids_in}
 
 pub some_none : (es : List Entry) → es ≡ [] → false ≡ some_of es
@@ -33,6 +34,6 @@ neither false true = refl
 neither false false = refl
 
 -- the ids that a search found
-pub ids_named : (t : Tree) (d : ℕ) (n : Name) (r : Option (ℕ × ℕ)) → NameFound t d n r → named t d n ≡ ids_in r
+pub ids_named : (t : Tree) (d : ℕ) (n : Name) (r : Option Named) → NameFound t d n r → named t d n ≡ ids_in r
 ids_named t d n None f = f
 ids_named t d n (Some r) f = f.1

@@ -16,30 +16,38 @@ use Rattle.tables.proofs.Bodies.{dir_at, own_entries}
 use Rattle.tables.proofs.EntryRows.{ok_entries}
 use Rattle.tables.proofs.Keys.{every_at}
 use Rattle.lookup.specs.Views.{Sound}
-use Rattle.lookup.proofs.Places.{read, bounds, within}
+use Rattle.rows.specs.Found.{found}
+use Rattle.std.proofs.Common.{Some, None, refl}
+use Rattle.lookup.proofs.Places.{read, bounds, within, found_some, found_none}
 
 module _ {l : Limits} {T : Tables} {t : Tree} (h : Sound l T t) {d : ℕ} {p : Place} (s : Stands d t.nodes p) (k : p.kind ≡ 0) where
   pub entries_inside : 16 * (p.entries + p.count) ≤ length T.entries
   entries_inside = omega (arith, (within h d p s).dir_entries k, (bounds h).entries_long, h.holds.entries_fit)
 
-  module _ (n : Name) (ok : ok_name n ≡ true) (at : ℕ) (e : at ≡ name_row (name_key n) p.count p.entries T.entries) where
-    looked : NameLookedUp n (entries (body_of t d)) at (entry_id T.entries (p.entries + at))
-    looked =
-        subst (λ j. NameLookedUp n (entries (body_of t d)) j (entry_id T.entries (p.entries + j))) (sym e)
+  -- a search for a name that ended at an entry, or at none
+  module _ (n : Name) (ok : ok_name n ≡ true) where
+    looked : (at : ℕ) → name_row (name_key n) p.count p.entries T.entries ≡ at →
+        NameLookedUp n (entries (body_of t d)) at (entry_id T.entries (p.entries + at))
+    looked at e =
+        subst (λ j. NameLookedUp n (entries (body_of t d)) j (entry_id T.entries (p.entries + j))) e
         ((read h).name d p n s h.fits.ok ok k)
 
-    pub name_stands : at < p.count →
+    pub name_stands : (at : ℕ) → found p.count (name_row (name_key n) p.count p.entries T.entries) ≡ Some at →
         EntryStands n (entries (body_of t d)) at × (named t d n ≡ entry_id T.entries (p.entries + at) ∷ [])
-    name_stands lt = elim looked [
-      | inl a ↦ absurd (omega (arith, a.0, (dir_at s k).many))
-      | inr b ↦ (b.1, b.2)
-    ]
+    name_stands at e =
+        let (lt, is) = found_some p.count (name_row (name_key n) p.count p.entries T.entries) at e in
+        elim (looked at is) [
+          | inl a ↦ absurd (omega (arith, a.0, (dir_at s k).many))
+          | inr b ↦ (b.1, b.2)
+        ]
 
-    pub name_missing : p.count ≤ at → named t d n ≡ []
-    name_missing le = elim looked [
-      | inl a ↦ a.1
-      | inr b ↦ absurd (omega (arith, b.0, (dir_at s k).many))
-    ]
+    pub name_missing : found p.count (name_row (name_key n) p.count p.entries T.entries) ≡ None → named t d n ≡ []
+    name_missing e =
+        let le = found_none p.count (name_row (name_key n) p.count p.entries T.entries) e in
+        elim (looked _ refl) [
+          | inl a ↦ a.1
+          | inr b ↦ absurd (omega (arith, b.0, (dir_at s k).many))
+        ]
 
   -- the length of the name of the j-th entry
   pub short_at : (j : ℕ) → j < p.count → get_or T.entries (16 * (p.entries + j) + 1) 0 ≤ 64

@@ -4,6 +4,7 @@ use Rattle.model.specs.Tree.{Name, Tree, body_of, entries, named, is_dir, is_fil
 use Rattle.tables.specs.Stands.{Stands, EntryStands}
 use Rattle.rows.specs.declared.nodes.Place.{Place}
 use Rattle.rows.specs.Places.{place_in}
+use Rattle.lookup.specs.declared.search.Named.{Named}
 
 -- a node by its id
 abbrev pub NodeFound : Tree → ℕ → Option Place → Type 0
@@ -19,11 +20,11 @@ FileFound t i None = is_file (body_of t i) ≡ false
 FileFound t i (Some p) = Stands i t.nodes (place_in p) × ((place_in p).kind ≡ 1)
 
 -- a name in a directory: which entry has it, and the id
-abbrev pub NameFound : Tree → ℕ → Name → Option (ℕ × ℕ) → Type 0
+abbrev pub NameFound : Tree → ℕ → Name → Option Named → Type 0
 NameFound t d n None = named t d n ≡ []
-NameFound t d n (Some r) = EntryStands n (entries (body_of t d)) r.0 × (named t d n ≡ r.1 ∷ [])
+NameFound t d n (Some r) = EntryStands n (entries (body_of t d)) r.index × (named t d n ≡ r.id ∷ [])
 
 -- the ids that were found
-abbrev pub ids_in : Option (ℕ × ℕ) → List ℕ
+abbrev pub ids_in : Option Named → List ℕ
 ids_in None = []
-ids_in (Some r) = r.1 ∷ []
+ids_in (Some r) = r.id ∷ []

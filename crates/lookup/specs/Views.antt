@@ -5,10 +5,10 @@ use Rattle.machine.specs.Fits.{Fits}
 use Rattle.tables.specs.Edits.{Tables}
 use Rattle.tables.specs.Stands.{Holds}
 use Rattle.rows.specs.Places.{counts_in}
-use Rattle.lookup.specs.declared.view.Tree.{Tree}
+use Rattle.lookup.specs.declared.view.View.{View}
 
 -- the words of the tables
-abbrev pub words : Tree → Tables
+abbrev pub words : View → Tables
 words v = record {
   nodes = v.nodes.now;
   sums = v.sums.now;
@@ -25,3 +25,7 @@ pub record Sound (l : Limits) (T : Tables) (t : tree.Tree) : Type 0 where
 -- there is such a tree
 abbrev pub SomeTree : Limits → Tables → Type 0
 SomeTree l T = (t : tree.Tree) × Sound l T t
+
+-- by some limits there is such a tree
+abbrev pub AnyTree : Tables → Type 0
+AnyTree T = (l : Limits) × SomeTree l T

@@ -2,36 +2,33 @@
 ghost use Rattle.std.specs.Prelude.{◌≡◌};
 ghost use Rattle.model.specs.Tree as model;
 ghost use Rattle.model.specs.Refusals as refusals;
-ghost use Rattle.lookup.specs.Views.{words, Sound, SomeTree};
+ghost use Rattle.lookup.specs.Views.{words, Sound};
 
-use crate::search::directory;
-use crate::view::Tree;
+use crate::tree::Tree;
 use rows::entries::entry_id;
 
-// Going down at most so many steps: passing over an entry is one, and so is going into it. The recursion goes no deeper than the
-// tree does.
-pub fn inside(tree: Tree<'_>, steps: usize, outer: u64, inner: u64) -> bool
-    requires { (l : refusals.Limits) × SomeTree l (words tree) }
-    ensures { (l : refusals.Limits) (t : model.Tree) → Sound l (words tree.entry) t → result ≡ model.holds steps t outer inner }
-{
-    if outer == inner {
-        return true;
-    }
-    let Some(place) = directory(tree, outer) else {
-        return false;
-    };
-    for k in 0..place.count {
-        if steps < k + 2 {
-            return false;
-        }
-        if inside(
-            tree,
-            steps - k - 2,
-            entry_id(tree.entries, place.entries + k),
-            inner,
-        ) {
+impl Tree<'_> {
+    // Going down at most so many steps: passing over an entry is one, and so is going into it. The recursion goes no deeper than the
+    // tree does.
+    pub fn inside(&self, steps: usize, outer: u64, inner: u64) -> bool
+        ensures { (l : refusals.Limits) (t : model.Tree) → Sound l (words self.now.view) t → result ≡ model.holds steps t outer inner }
+    {
+        if outer == inner {
             return true;
         }
+        let Some(place) = self.directory(outer) else {
+            return false;
+        };
+        // kept: the number of an entry also counts the steps that passing over those before it took
+        for k in 0..place.count {
+            if steps < k + 2 {
+                return false;
+            }
+            let id = entry_id(self.view.entries, place.entries + k);
+            if self.inside(steps - k - 2, id, inner) {
+                return true;
+            }
+        }
+        false
     }
-    false
 }

@@ -2,41 +2,27 @@
 ghost use Rattle.std.specs.Prelude.{◌≡◌, ◌&&◌, ◌||◌};
 ghost use Rattle.model.specs.Tree as model;
 ghost use Rattle.model.specs.Refusals as refusals;
-ghost use Rattle.lookup.specs.Views.{words, Sound, SomeTree};
+ghost use Rattle.lookup.specs.Views.{words, Sound};
 
-use crate::search::{directory, place_of};
-use crate::view::Tree;
-use rows::nodes::Kind;
+use crate::tree::Tree;
 
-// Has a node entries?
-pub fn has_entries(tree: Tree<'_>, id: u64) -> bool
-    requires { (l : refusals.Limits) × SomeTree l (words tree) }
-    ensures { (l : refusals.Limits) (t : model.Tree) → Sound l (words tree.entry) t →
-        result ≡ model.some_of (model.entries (model.body_of t id)) }
-{
-    let Some(place) = directory(tree, id) else {
-        return false;
-    };
-    place.count > 0
-}
+impl Tree<'_> {
+    // Has a node entries?
+    pub fn has_entries(&self, id: u64) -> bool
+        ensures { (l : refusals.Limits) (t : model.Tree) → Sound l (words self.now.view) t →
+            result ≡ model.some_of (model.entries (model.body_of t id)) }
+    {
+        self.directory(id).is_some_and(|place| place.count > 0)
+    }
 
-// Are both directories, or both files?
-pub fn alike(tree: Tree<'_>, a: u64, b: u64) -> bool
-    requires { (l : refusals.Limits) × SomeTree l (words tree) }
-    ensures { (l : refusals.Limits) (t : model.Tree) → Sound l (words tree.entry) t →
-        result ≡ ((model.is_dir (model.body_of t a) && model.is_dir (model.body_of t b))
-        || (model.is_file (model.body_of t a) && model.is_file (model.body_of t b))) }
-{
-    let Some(first) = place_of(tree, a) else {
-        return false;
-    };
-    let Some(second) = place_of(tree, b) else {
-        return false;
-    };
-    match (first.kind, second.kind) {
-        (Kind::Dir, Kind::Dir) => true,
-        (Kind::File, Kind::File) => true,
-        (Kind::Dir, Kind::File) => false,
-        (Kind::File, Kind::Dir) => false,
+    // Are both directories, or both files?
+    pub fn alike(&self, a: u64, b: u64) -> bool
+        ensures { (l : refusals.Limits) (t : model.Tree) → Sound l (words self.now.view) t →
+            result ≡ ((model.is_dir (model.body_of t a) && model.is_dir (model.body_of t b))
+            || (model.is_file (model.body_of t a) && model.is_file (model.body_of t b))) }
+    {
+        self.place_of(a)
+            .zip(self.place_of(b))
+            .is_some_and(|(first, second)| first.kind == second.kind)
     }
 }

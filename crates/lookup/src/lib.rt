@@ -5,4 +5,5 @@
 pub mod inside;
 pub mod kinds;
 pub mod search;
+pub mod tree;
 pub mod view;

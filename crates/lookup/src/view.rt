@@ -1,9 +1,10 @@
 // The tables of a tree as they are lent.
 use rows::used::Used;
 
-// The tables of the newest tree, to be read only.
+// The tables of a tree, to be read only.
+// kept: the board lends plain words, so a table has no rows of its own type
 #[derive(Clone, Copy)]
-pub struct Tree<'a> {
+pub struct View<'a> {
     pub nodes: &'a [u64],
     pub sums: &'a [u64],
     pub entries: &'a [u64],

@@ -2,9 +2,9 @@
 use Rattle.std.specs.Prelude.{ℕ, Bool}
 use Rattle.model.specs.Promise.{thin, all}
 use Rattle.model.specs.Refusals as refusals
-use Rattle.steps.specs.declared.limits.Limits.{Limits}
-use Rattle.steps.specs.declared.limits.Stage.{Stage}
-use Rattle.steps.specs.declared.limits.Stage.TheVariants.{First, Whole}
+use Rattle.calls.specs.declared.Limits.{Limits}
+use Rattle.steps.specs.declared.stage.Stage.{Stage}
+use Rattle.steps.specs.declared.stage.Stage.TheVariants.{First, Whole}
 
 abbrev pub stage_calls : Stage → ℕ → Bool
 stage_calls First = thin

@@ -1,5 +1,5 @@
 -- What a step means for a tree whose tables were asked, and what a check tells. Definitions only.
-use Rattle.std.specs.Prelude.{◌≡◌, ℕ, suc, ◌+◌, ◌*◌, ◌<◌, ◌≤◌, Bool, true, false, List, [], ◌∷◌, length, get_or, drop, Ok, Err, Result, ◌≢◌, slice_index, slice_index_or}
+use Rattle.std.specs.Prelude.{◌≡◌, ℕ, suc, ◌+◌, ◌*◌, ◌<◌, ◌≤◌, Bool, true, false, List, [], ◌∷◌, length, get_or, drop, Ok, Err, Result, MatchResult, ◌≢◌, slice_index, slice_index_or}
 use Rattle.model.specs.Tree.{Name, Tree, body_of, entries, cells, named, is_file, holds}
 use Rattle.model.specs.Calls as calls
 use Rattle.model.specs.Calls.{Call}
@@ -16,6 +16,10 @@ use Rattle.rows.specs.declared.nodes.Kind.{Kind}
 use Rattle.rows.specs.declared.nodes.Kind.TheVariants.{Dir, File}
 use Rattle.rows.specs.Places.{place_in}
 use Rattle.lookup.specs.Found.{NameFound, ids_in}
+use Rattle.lookup.specs.Views.{words, Sound}
+use Rattle.steps.specs.declared.stage.Stage.{Stage}
+use Rattle.steps.specs.declared.state.State.{State}
+use Rattle.steps.specs.Stages.{limits_of}
 use Rattle.steps.specs.declared.step.Renaming.{Renaming}
 use Rattle.steps.specs.declared.step.Step.{Step}
 use Rattle.steps.specs.declared.step.Step.TheVariants.{Find, Make, Remove, Rename, SameName, List as ListStep, Size, Read, Write}
@@ -86,11 +90,11 @@ pub record Renames (l : Limits) (t : Tree) (older : ℕ) (c : Call) (r : Renamin
   pub to_dir : DirStands t r.to (place_in r.target)
   pub old_ok : ok_name old ≡ true
   pub new_ok : ok_name r.name.now ≡ true
-  pub entry : EntryStands old (entries (body_of t r.from)) r.index
-  pub found : named t r.from old ≡ r.id ∷ []
-  pub outside : holds (steps_down t) t r.id r.to ≡ false
+  pub entry : EntryStands old (entries (body_of t r.from)) r.entry.index
+  pub found : named t r.from old ≡ r.entry.id ∷ []
+  pub outside : holds (steps_down t) t r.entry.id r.to ≡ false
   pub taken : NameFound t r.to r.name.now r.replaced
-  pub way : Way l t older r.id (ids_in r.replaced)
+  pub way : Way l t older r.entry.id (ids_in r.replaced)
 
 pub record IsSameName (t : Tree) (c : Call) : Type 0 where
   pub from : ℕ
@@ -161,7 +165,7 @@ pub record SyncsFile (t : Tree) (c : Call) (i : ℕ) : Type 0 where
 abbrev pub Means : Limits → Tables → Tree → ℕ → ℕ → Call → Step → Type 0
 Means l T t older held c (Find i) = Finds t c i
 Means l T t older held c (Make k p n) = Makes l T t older c k (place_in p) n.now
-Means l T t older held c (Remove p j i) = Removes l t older c (place_in p) j i
+Means l T t older held c (Remove p e) = Removes l t older c (place_in p) e.index e.id
 Means l T t older held c (Rename r) = Renames l t older c r
 Means l T t older held c SameName = IsSameName t c
 Means l T t older held c (ListStep row) = Lists T t c row
@@ -183,3 +187,20 @@ Tells l T t older held c (Ok s) = (refusal_by l t older held c ≡ 0) × Means l
 abbrev pub TellsAll : Limits → Tables → Tree → ℕ → ℕ → Call → Result Step Refusal → Type 0
 TellsAll l T t older held c (Err e) = refusal l t older held c ≡ refusal_number e
 TellsAll l T t older held c (Ok s) = (refusal l t older held c ≡ 0) × Means l T t older held c s
+
+-- what a check tells of a call by the tables alone, whatever tree they hold
+abbrev pub ToldByTables : Tables → Call → Result Step Refusal → Type 0
+ToldByTables T c r = (l : Limits) (t : Tree) (older held : ℕ) → Sound l T t → Tells l T t older held c r
+
+-- and by a state, at any stage, where so many cells are held
+abbrev pub ToldByState : State → ℕ → Call → Result Step Refusal → Type 0
+ToldByState a held c r =
+    (s : Stage) (t : Tree) → Sound (limits_of s a.room.limits) (words a.tree.view) t →
+    Tells (limits_of s a.room.limits) (words a.tree.view) t a.room.older held c r
+
+-- what is told of a place of a file by the tables alone: why it cannot be read, or its data block
+abbrev pub BlockTold : Tables → ℕ → ℕ → Result ℕ Refusal → Type 0
+BlockTold T i o r =
+    (l : Limits) (t : Tree) (older held : ℕ) → Sound l T t →
+    MatchResult r (λ b. (refusal_by l t older held (calls.read i o) ≡ 0) × Reads t (calls.read i o) b)
+    (λ e. refusal_by l t older held (calls.read i o) ≡ refusal_number e)

@@ -1,56 +1,62 @@
-use Rattle.std.proofs.Common.{sym, refl}
+use Rattle.std.proofs.Common.{◌≡◌, None, Some, Err, sym, refl, arith}
 use Rattle.std.proofs.lemmas.Bool.{ltb-true}
+use Rattle.calls.specs.declared.Refusal.TheVariants.{NoDirectory, NoEntry}
 use Rattle.model.specs.Tree.{body_of, entries}
 use Rattle.tables.proofs.Bodies.{dir_at}
 use Rattle.steps.specs.Stages.{limits_of}
-use Rattle.lookup.proofs.Entries.{entries_inside}
 use Rattle.lookup.proofs.Alike.{none_some}
 use Rattle.check_names.proofs.Reasons.{remove_no_dir, remove_no_name, remove_full, remove_late, remove_done}
 use Rattle.check_names.proofs.renames.remove.Goals as goal
 
-pub returns-in_default : goal.returns-in_default
-returns-in_default c s t held h =
-    let l = limits_of s c.args.limits in
-    remove_no_dir l t c.args.older held c.args.dir c.args.name.now (c.in_default.ensures l t h)
+pub returns-in_err-place : goal.returns-in_err-place
+returns-in_err-place c held s t h =
+    let l = limits_of s c.args.state.now.room.limits in
+    let r : c.from_residual.result ≡ Err NoDirectory = grind arith in
+    let n : c.directory.result ≡ None = grind arith in
+    rw r (remove_no_dir l t c.args.state.now.room.older held c.args.dir c.args.name.now
+    (rw n at c.directory.ensures.found l t h))
 
-pub name_in-requires : goal.name_in-requires
-name_in-requires c =
-    let h = c.requires.tree.1.1 in
-    let f = c.in-Some.ensures c.requires.tree.0 c.requires.tree.1.0 h in
-    record { inside = entries_inside h f.0 f.1; named = c.requires.name }
-
-pub returns-in_default-name_in : goal.returns-in_default-name_in
-returns-in_default-name_in c s t held h =
-    let l = limits_of s c.args.limits in
-    let f = c.in-Some.ensures l t h in
-    remove_no_name l t c.args.older held c.args.dir c.args.name.now (dir_at f.0 f.1).dir
-    (c.in_default-name_in.ensures l t c.args.dir h f.0 f.1)
+pub returns-in_err-entry : goal.returns-in_err-entry
+returns-in_err-entry c held s t h =
+    let l = limits_of s c.args.state.now.room.limits in
+    let r : c.from_residual-in_err-entry.result ≡ Err NoEntry = grind arith in
+    let n : c.directory.result ≡ Some c.in_ok-place.place = grind arith in
+    let m : c.name_in.result ≡ None = grind arith in
+    let f = rw n at (c.directory.ensures.found l t h) in
+    rw r (remove_no_name l t c.args.state.now.room.older held c.args.dir c.args.name.now (dir_at f.0 f.1).dir
+    (rw m at (c.name_in.ensures l t c.args.dir h f.0 f.1)))
 
 pub returns-then-has_entries : goal.returns-then-has_entries
-returns-then-has_entries c s t held h =
-    let l = limits_of s c.args.limits in
-    let f = c.in-Some.ensures l t h in
-    let g = c.in-Some-name_in.ensures l t c.args.dir h f.0 f.1 in
-    remove_full l t c.args.older held c.args.dir c.args.name.now (dir_at f.0 f.1).dir c.in-Some-name_in.id g.1
-    (sym (c.if-has_entries.ensures l t h))
+returns-then-has_entries c held s t h =
+    let l = limits_of s c.args.state.now.room.limits in
+    let n : c.directory.result ≡ Some c.in_ok-place.place = grind arith in
+    let m : c.name_in.result ≡ Some c.in_ok-entry.entry = grind arith in
+    let f = rw n at (c.directory.ensures.found l t h) in
+    let g = rw m at (c.name_in.ensures l t c.args.dir h f.0 f.1) in
+    remove_full l t c.args.state.now.room.older held c.args.dir c.args.name.now (dir_at f.0 f.1).dir
+    c.in_ok-entry.entry.id g.1 (sym (c.if-has_entries.ensures l t h))
 
 pub returns-then-not-may_change : goal.returns-then-not-may_change
-returns-then-not-may_change c s t held h =
-    let l = limits_of s c.args.limits in
-    let f = c.in-Some.ensures l t h in
-    let g = c.in-Some-name_in.ensures l t c.args.dir h f.0 f.1 in
-    remove_late l t c.args.older held c.args.dir c.args.name.now (dir_at f.0 f.1).dir c.in-Some-name_in.id g.1
-    (sym (c.if-has_entries.ensures l t h)) (sym c.if-not-may_change.ensures)
+returns-then-not-may_change c held s t h =
+    let l = limits_of s c.args.state.now.room.limits in
+    let n : c.directory.result ≡ Some c.in_ok-place.place = grind arith in
+    let m : c.name_in.result ≡ Some c.in_ok-entry.entry = grind arith in
+    let f = rw n at (c.directory.ensures.found l t h) in
+    let g = rw m at (c.name_in.ensures l t c.args.dir h f.0 f.1) in
+    remove_late l t c.args.state.now.room.older held c.args.dir c.args.name.now (dir_at f.0 f.1).dir
+    c.in_ok-entry.entry.id g.1 (sym (c.if-has_entries.ensures l t h)) (sym c.if-not-may_change.ensures)
 
 pub returns : goal.returns
-returns c s t held h =
-    let l = limits_of s c.args.limits in
-    let f = c.in-Some.ensures l t h in
-    let g = c.in-Some-name_in.ensures l t c.args.dir h f.0 f.1 in
+returns c held s t h =
+    let l = limits_of s c.args.state.now.room.limits in
+    let n : c.directory.result ≡ Some c.in_ok-place.place = grind arith in
+    let m : c.name_in.result ≡ Some c.in_ok-entry.entry = grind arith in
+    let f = rw n at (c.directory.ensures.found l t h) in
+    let g = rw m at (c.name_in.ensures l t c.args.dir h f.0 f.1) in
     let o = sym c.if-not-may_change.ensures in
     let e = c.if-has_entries.ensures l t h in (
-      remove_done l t c.args.older held c.args.dir c.args.name.now (dir_at f.0 f.1).dir c.in-Some-name_in.id
-          g.1 (sym e) o,
+      remove_done l t c.args.state.now.room.older held c.args.dir c.args.name.now (dir_at f.0 f.1).dir
+          c.in_ok-entry.entry.id g.1 (sym e) o,
       record {
         dir = c.args.dir;
         name = c.args.name.now;
@@ -58,7 +64,7 @@ returns c s t held h =
         in_dir = record { stands = f.0; kind = f.1 };
         entry = g.0;
         found = g.1;
-        empty = none_some (entries (body_of t c.in-Some-name_in.id)) e;
+        empty = none_some (entries (body_of t c.in_ok-entry.entry.id)) e;
         older_room = ltb-true _ _ o;
       },
     )
