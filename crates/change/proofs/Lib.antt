@@ -1,4 +1,3 @@
--- Index: tables that a change does not touch, put back (Untouched); a node made (Made); tables from which an entry went (Gone)
-mod Untouched
+-- Index: a node made (Made); tables from which an entry went (Gone)
 mod Made
 mod Gone
