@@ -1,3 +1,3 @@
 -- Index: a node made (Made); tables from which an entry went (Gone)
 mod Made
-mod Gone
+pub mod Gone
