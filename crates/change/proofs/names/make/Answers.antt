@@ -5,7 +5,6 @@ use Rattle.tables.specs.Stands.{Holds}
 use Rattle.tables.proofs.Ranges.{in_bounds, in_range}
 use Rattle.tables.proofs.Reaches.{Reach, reach}
 use Rattle.rows.specs.Places.{place_in}
-use Rattle.memory.proofs.Same.{same_tables}
 use Rattle.change.specs.Given.{with_cells}
 use Rattle.change.proofs.Made.{added_for, made_for}
 use Rattle.change.proofs.names.make.Goals as goal
@@ -36,15 +35,11 @@ enter_name-requires c =
       name = c.requires.name;
     }
 
-pub returns : goal.returns
-returns c = record {
-  same = same_tables c.add_node-more.ensures.same c.enter_name.ensures.same;
-  cells = c.enter_name.ensures.cells ∙ c.add_node-more.ensures.cells;
-  holds = λ cs g.
-      let b = in_bounds _ _ _ _ g.holds in
-      let row = entry_row (record { name = c.args.name.now; id = c.args.used.next }) in
-      let e = c.enter_name.ensures.tables ∙ ap (entered (place_in c.args.place) row) c.add_node-more.ensures.tables in
-      subst (Holds g.most g.room _) (sym (ap (with_cells cs) e))
-      (made_for g c.requires.dir (omega (arith, b.nodes_long, c.requires.node_room.0))
-      (omega (arith, b.entries_long, c.requires.entry_room)) c.args.name.now c.args.kind);
-}
+pub returns-clause-holds : goal.returns-clause-holds
+returns-clause-holds c = λ cs g.
+    let b = in_bounds _ _ _ _ g.holds in
+    let row = entry_row (record { name = c.args.name.now; id = c.args.used.next }) in
+    let e = c.enter_name.ensures.tables ∙ ap (entered (place_in c.args.place) row) c.add_node-more.ensures.tables in
+    subst (Holds g.most g.room _) (sym (ap (with_cells cs) e))
+    (made_for g c.requires.dir (omega (arith, b.nodes_long, c.requires.node_room.0))
+    (omega (arith, b.entries_long, c.requires.entry_room)) c.args.name.now c.args.kind)

@@ -4,7 +4,6 @@ use Rattle.tables.specs.Edits.{gone}
 use Rattle.tables.specs.Stands.{Holds}
 use Rattle.tables.proofs.Ranges.{in_range}
 use Rattle.tables.proofs.Operations.{removed_holds}
-use Rattle.memory.proofs.Same.{same_tables}
 use Rattle.tables.proofs.Reaches.{reach}
 use Rattle.tables.proofs.Bodies.{kind_small}
 use Rattle.change.proofs.Gone.{own_cells_used, index_low, none_still, left_for, stood}
@@ -37,13 +36,10 @@ drop_at-requires c =
       cells = r.cells;
     }
 
-pub returns : goal.returns
-returns c = record {
-  same = same_tables c.leave-fewer.ensures.same c.drop_at.ensures.same;
-  holds = λ g.
-      let e = c.leave-fewer.ensures.tables in
-      let s = stood g.dir c.requires.dir g.entry e g.at in
-      let q = place_at c.args.row c.leave-fewer.new.tables.nodes.now c.leave-fewer.new.tables.sums.now in
-      subst (Holds g.dir.most g.dir.room _) (sym (c.drop_at.ensures.tables ∙ ap (gone q) e))
-      (removed_holds g.dir.holds g.dir.stands c.requires.dir g.name c.args.index g.node q g.entry g.empty s);
-}
+pub returns-clause-holds : goal.returns-clause-holds
+returns-clause-holds c = λ g.
+    let e = c.leave-fewer.ensures.tables in
+    let s = stood g.dir c.requires.dir g.entry e g.at in
+    let q = place_at c.args.row c.leave-fewer.new.tables.nodes.now c.leave-fewer.new.tables.sums.now in
+    subst (Holds g.dir.most g.dir.room _) (sym (c.drop_at.ensures.tables ∙ ap (gone q) e))
+    (removed_holds g.dir.holds g.dir.stands c.requires.dir g.name c.args.index g.node q g.entry g.empty s)

@@ -5,7 +5,6 @@ use Rattle.tables.specs.Edits.{Tables, entered}
 use Rattle.tables.specs.Stands.{Holds}
 use Rattle.tables.proofs.Ranges.{in_bounds, in_range}
 use Rattle.tables.proofs.Operations.{moved_holds}
-use Rattle.memory.proofs.Same.{same_tables}
 use Rattle.tables.proofs.Reaches.{reach}
 use Rattle.tables.proofs.Bodies.{kind_small}
 use Rattle.change.specs.Given.{with_cells}
@@ -52,18 +51,14 @@ enter_at-requires c =
       name = c.requires.name;
     }
 
-pub returns : goal.returns
-returns c = record {
-  same = same_tables c.leave-fewer.ensures.same c.enter_at.ensures.same;
-  cells = c.enter_at.ensures.cells ∙ c.leave-fewer.ensures.cells;
-  holds = λ cs g.
-      let e = ap (with_cells cs) c.leave-fewer.ensures.tables in
-      let s = stood g.dir c.requires.dir g.entry e g.at in
-      let q = place_at c.args.row c.leave-fewer.new.tables.nodes.now c.leave-fewer.new.tables.sums.now in
-      let row = entry_row (record { name = c.args.name.now; id = c.args.id }) in
-      let all = ap (with_cells cs) c.enter_at.ensures.tables ∙ ap (entered q row) e in
-      subst (Holds g.dir.most g.dir.room _) (sym all)
-      (moved_holds g.whole g.dir.tree _ g.dir.id _ g.name g.to q c.args.name.now c.args.id c.args.index
-      g.rest g.dir.holds g.dir.stands c.requires.dir g.entry s
-      (still_dir _ g.dir.stands g.at.stands g.to_dir s));
-}
+pub returns-clause-holds : goal.returns-clause-holds
+returns-clause-holds c = λ cs g.
+    let e = ap (with_cells cs) c.leave-fewer.ensures.tables in
+    let s = stood g.dir c.requires.dir g.entry e g.at in
+    let q = place_at c.args.row c.leave-fewer.new.tables.nodes.now c.leave-fewer.new.tables.sums.now in
+    let row = entry_row (record { name = c.args.name.now; id = c.args.id }) in
+    let all = ap (with_cells cs) c.enter_at.ensures.tables ∙ ap (entered q row) e in
+    subst (Holds g.dir.most g.dir.room _) (sym all)
+    (moved_holds g.whole g.dir.tree _ g.dir.id _ g.name g.to q c.args.name.now c.args.id c.args.index
+    g.rest g.dir.holds g.dir.stands c.requires.dir g.entry s
+    (still_dir _ g.dir.stands g.at.stands g.to_dir s))
