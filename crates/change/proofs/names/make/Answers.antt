@@ -2,10 +2,11 @@ use Rattle.std.proofs.Common.{length, sym, ap, ◌∙◌, subst, arith}
 use Rattle.machine.specs.Tables.{entry_row}
 use Rattle.tables.specs.Edits.{Tables, entered}
 use Rattle.tables.specs.Stands.{Holds}
-use Rattle.tables.proofs.Ranges.{in_bounds, in_range}
+use Rattle.tables.proofs.Ranges.{in_bounds}
 use Rattle.tables.proofs.Reaches.{Reach, reach}
 use Rattle.rows.specs.Places.{place_in}
 use Rattle.change.specs.Given.{with_cells}
+use Rattle.change.proofs.Reached.{rows, entries_used}
 use Rattle.change.proofs.Made.{added_for, made_for}
 use Rattle.change.proofs.names.make.Goals as goal
 
@@ -22,14 +23,14 @@ pub enter_name-requires : goal.enter_name-requires
 enter_name-requires c =
     let g = c.requires.held.1 in
     let b = in_bounds _ _ _ _ g.holds in
-    let w = in_range _ _ _ _ _ _ g.holds g.stands in
+    let w = entries_used g c.requires.dir in
     let e = ap (with_cells c.requires.held.0) c.add_node-more.ensures.tables in
     let r = subst Reach (sym e) (reach (added_for g (omega (arith, b.nodes_long, c.requires.node_room.0)) c.args.kind)) in
     let un = ap (λ (T : Tables). T.used.nodes) e in
     let ue = ap (λ (T : Tables). T.used.entries) e in
     record {
-      place = (omega (arith, w.row, un), omega (arith, w.dir_entries c.requires.dir, ue));
-      rows = (r.nodes, r.sums);
+      place = (omega (arith, w.0, un), omega (arith, w.1, ue));
+      rows = rows r;
       sums = r.low;
       entries = omega (arith, ue, ap (λ (T : Tables). length T.entries) e, c.requires.entry_room);
       name = c.requires.name;

@@ -6,6 +6,7 @@ use Rattle.tables.proofs.Ranges.{in_range}
 use Rattle.tables.proofs.Operations.{removed_holds}
 use Rattle.tables.proofs.Reaches.{reach}
 use Rattle.tables.proofs.Bodies.{kind_small}
+use Rattle.change.proofs.Reached.{rows, entries_used}
 use Rattle.change.proofs.Gone.{own_cells_used, index_low, none_still, left_for, stood}
 use Rattle.change.proofs.names.remove.Goals as goal
 
@@ -13,11 +14,10 @@ pub leave-fewer-requires : goal.leave-fewer-requires
 leave-fewer-requires c =
     let g = c.requires.given.dir in
     let r = reach g.holds in
-    let w = in_range _ _ _ _ _ _ g.holds g.stands in
     record {
-      place = (w.row, w.dir_entries c.requires.dir);
+      place = entries_used g c.requires.dir;
       index = index_low g c.requires.dir c.requires.given.entry;
-      rows = (r.nodes, r.sums);
+      rows = rows r;
       entries = r.entries;
     }
 
@@ -32,7 +32,7 @@ drop_at-requires c =
     record {
       row = (w.row, kind_small s);
       place = own_cells_used h s (none_still g.dir c.requires.dir g.entry g.node g.empty);
-      rows = (r.nodes, r.sums);
+      rows = rows r;
       cells = r.cells;
     }
 

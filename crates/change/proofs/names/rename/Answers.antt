@@ -8,6 +8,7 @@ use Rattle.tables.proofs.Operations.{moved_holds}
 use Rattle.tables.proofs.Reaches.{reach}
 use Rattle.tables.proofs.Bodies.{kind_small}
 use Rattle.change.specs.Given.{with_cells}
+use Rattle.change.proofs.Reached.{rows, entries_used}
 use Rattle.change.proofs.Gone.{still_dir, index_low, left_for, stood}
 use Rattle.change.proofs.names.rename.Goals as goal
 
@@ -15,11 +16,10 @@ pub leave-fewer-requires : goal.leave-fewer-requires
 leave-fewer-requires c =
     let g = c.requires.given.1.dir in
     let r = reach g.holds in
-    let w = in_range _ _ _ _ _ _ g.holds g.stands in
     record {
-      place = (w.row, w.dir_entries c.requires.dir);
+      place = entries_used g c.requires.dir;
       index = index_low g c.requires.dir c.requires.given.1.entry;
-      rows = (r.nodes, r.sums);
+      rows = rows r;
       entries = r.entries;
     }
 
@@ -37,7 +37,7 @@ enter_at-requires c =
     record {
       row = (w.row, kind_small s);
       place = w.dir_entries (still_dir _ g.dir.stands g.at.stands g.to_dir s);
-      rows = (r.nodes, r.sums);
+      rows = rows r;
       sums = r.low;
       entries =
           omega (

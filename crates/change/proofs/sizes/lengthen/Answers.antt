@@ -1,19 +1,19 @@
 use Rattle.std.proofs.Common.{sym, ap, subst, arith}
 use Rattle.tables.specs.Stands.{Holds}
-use Rattle.tables.proofs.Ranges.{in_bounds, in_range}
+use Rattle.tables.proofs.Ranges.{in_bounds}
 use Rattle.tables.proofs.Operations.{grown_to}
 use Rattle.tables.proofs.Reaches.{reach}
 use Rattle.change.specs.Given.{with_entries}
+use Rattle.change.proofs.Reached.{rows, cells_used}
 use Rattle.change.proofs.sizes.lengthen.Goals as goal
 
 pub grow-requires : goal.grow-requires
 grow-requires c =
     let g = c.requires.held.1 in
     let r = reach g.holds in
-    let w = in_range _ _ _ _ _ _ g.holds g.stands in
     record {
-      place = (w.row, w.file_cells c.requires.file);
-      rows = (r.nodes, r.sums);
+      place = cells_used g c.requires.file;
+      rows = rows r;
       sums = r.low;
       cells = c.requires.room;
     }
