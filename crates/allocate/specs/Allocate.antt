@@ -38,13 +38,6 @@ pub record Released (row : List ℕ) (s v : Status) : Type 0 where
   pub words : Words v.own.now
   pub long : length v.own.now ≡ length s.own.now
 
--- nothing but the map of held blocks is changed
-pub record HeldOnly (s v : Status) : Type 0 where
-  pub head : v.head.now ≡ s.head.now
-  pub superblock : v.superblock.now ≡ s.superblock.now
-  pub fresh : v.fresh.now ≡ s.fresh.now
-  pub own : v.own.now ≡ s.own.now
-
 -- held is what the newest tree has, and nothing is fresh
 pub record Settled (s v : Status) : Type 0 where
   pub head : v.head.now ≡ s.head.now

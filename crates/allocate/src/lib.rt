@@ -5,46 +5,28 @@ ghost use Rattle.std.specs.Prelude.{◌≡◌, ◌+◌, ◌*◌, ◌^◌, ◌<�
 ghost use Rattle.std.specs.List.{AllByRecursion};
 ghost use Rattle.blocks.specs.Words.{Words, part};
 ghost use Rattle.blocks.specs.Bits.{bits_of};
-ghost use borrow.Rule.Slice.PartMut.{put_mid};
-ghost use Rattle.machine.specs.State.{count_set, free, marked};
-ghost use Rattle.tables.specs.Own.{unmarked};
+ghost use Rattle.machine.specs.State.{count_set};
 ghost use Rattle.memory.specs.Lent.{SameTables, SameStatus};
-ghost use Rattle.allocate.specs.Allocate.{Claimed, Released, HeldOnly, Settled};
+ghost use Rattle.allocate.specs.Allocate.{Claimed, Released, Settled};
 
 use bitmap::{clear_all, mark_all, take_lowest, unmark_all};
 use memory::newest::Tables;
 use memory::status::Status;
 
-// Takes the lowest free data blocks for a part of a table of cells.
-fn take_part(map: &mut [u64], cells: &mut [u64], at: usize, count: usize)
-    requires part { at + count ≤ length cells.old }
-    requires few { length map.old < 2 ^ 32 }
-    requires enough { count + count_set (bits_of map.old) ≤ 64 * length map.old }
-    ensures taken { cells.new ≡ put_mid at count cells.old (free count (bits_of map.old) 0) }
-    ensures bits { bits_of map.new ≡ marked (free count (bits_of map.old) 0) (bits_of map.old) }
-    ensures words { Words map.new }
-{
-    take_lowest(map, &mut cells[at..at + count]);
-}
+// The words of a map are below 2 ^ 64, as their type says. (Nothing runs: it tells so where maps are fields of what is lent.)
+fn words_fit(map: &[u64])
+    ensures { Words map.now }
+{}
 
-// Sets the bits of a part of a table of cells.
-fn mark_part(map: &mut [u64], tables: &Tables<'_>, at: usize, count: usize)
-    requires part { at + count ≤ length tables.now.cells.now }
-    requires below { AllByRecursion (λ x. x < 64 * length map.old) (part at count tables.now.cells.now) }
-    ensures words { Words map.new }
-    ensures bits { bits_of map.new ≡ marked (part at count tables.now.cells.now) (bits_of map.old) }
+// So are those of the three maps.
+fn maps_fit(status: &Status<'_>)
+    ensures held { Words status.now.held.now }
+    ensures fresh { Words status.now.fresh.now }
+    ensures own { Words status.now.own.now }
 {
-    mark_all(map, &tables.cells[at..at + count]);
-}
-
-// Clears them.
-fn unmark_part(map: &mut [u64], tables: &Tables<'_>, at: usize, count: usize)
-    requires part { at + count ≤ length tables.now.cells.now }
-    requires below { AllByRecursion (λ x. x < 64 * length map.old) (part at count tables.now.cells.now) }
-    ensures words { Words map.new }
-    ensures bits { bits_of map.new ≡ unmarked (part at count tables.now.cells.now) (bits_of map.old) }
-{
-    unmark_all(map, &tables.cells[at..at + count]);
+    words_fit(status.held);
+    words_fit(status.fresh);
+    words_fit(status.own);
 }
 
 // Takes the lowest free data blocks for the `count` cells from `at` on: they are held, fresh and the newest tree's from now on.
@@ -58,9 +40,11 @@ pub fn claim(tables: &mut Tables<'_>, status: &mut Status<'_>, at: usize, count:
     ensures status { SameStatus status.old status.new }
     ensures claimed { Claimed at count tables.old tables.new status.old status.new }
 {
-    take_part(status.held, tables.cells, at, count);
-    mark_part(status.fresh, tables, at, count);
-    mark_part(status.own, tables, at, count);
+    let cells = &mut tables.cells[at..at + count];
+    take_lowest(status.held, cells);
+    mark_all(status.fresh, cells);
+    mark_all(status.own, cells);
+    maps_fit(status);
 }
 
 // Gives up the data blocks of the `count` cells from `at` on: the newest tree has them no more. They stay held until a sync, since an
@@ -71,20 +55,17 @@ pub fn release(tables: &Tables<'_>, status: &mut Status<'_>, at: usize, count: u
     ensures status { SameStatus status.old status.new }
     ensures released { Released (part at count tables.now.cells.now) status.old status.new }
 {
-    unmark_part(status.own, tables, at, count);
+    unmark_all(status.own, &tables.cells[at..at + count]);
+    maps_fit(status);
 }
 
-// One map over another, word by word, since both are of one struct.
-fn hold_own(status: &mut Status<'_>)
-    requires { length status.old.held.now ≡ length status.old.own.now }
-    ensures status { SameStatus status.old status.new }
-    ensures held { status.new.held.now ≡ status.old.own.now }
-    ensures rest { HeldOnly status.old status.new }
+// Copies a lent map over another of its length.
+fn copy_map(to: &mut &mut [u64], from: &&mut [u64])
+    requires { length to.old.now ≡ length from.now.now }
+    ensures same { to.new.ghost_name ≡ to.old.ghost_name }
+    ensures copied { to.new.now ≡ from.now.now }
 {
-    for k in 0..status.own.len() {
-        let word = status.own[k];
-        status.held[k] = word;
-    }
+    to.copy_from_slice(from);
 }
 
 // After a sync: held is what the newest tree has, and nothing is fresh.
@@ -93,6 +74,7 @@ pub fn settle(status: &mut Status<'_>)
     ensures status { SameStatus status.old status.new }
     ensures settled { Settled status.old status.new }
 {
-    hold_own(status);
+    let Status { held, own, .. } = status;
+    copy_map(held, own);
     clear_all(status.fresh);
 }

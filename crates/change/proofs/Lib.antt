@@ -1,4 +1,4 @@
--- Index: tables that a change does not touch, put back (Untouched); a node made (Made); tables from which an entry went (Gone)
-mod Untouched
+-- Index: how far tables reach (Reached); a node made (Made); tables from which an entry went (Gone)
+mod Reached
 mod Made
-mod Gone
+pub mod Gone

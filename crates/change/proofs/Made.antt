@@ -8,7 +8,7 @@ use Rattle.tables.proofs.Changes.{added_holds}
 use Rattle.tables.proofs.Operations.{made_holds}
 use Rattle.rows.specs.declared.nodes.Kind.{Kind}
 use Rattle.rows.specs.declared.nodes.Kind.TheVariants.{Dir, File}
-use Rattle.rows.specs.Places.{kind_number}
+use Rattle.rows.specs.Kinds.{kind_number}
 use Rattle.change.specs.Given.{empty, Held}
 
 module _ {T : Tables} {p : Place} (g : Held T p) where

@@ -1,6 +1,6 @@
 -- WHAT A CHANGE OF A TREE STARTS FROM: tables that hold a tree, and where in them stands what is changed. Each record has the tree and
 -- the ids and names that the tables do not show, so that a contract can ask that there is one, and speak of each. Definitions only.
-use Rattle.std.specs.Prelude.{◌≡◌, ℕ, []}
+use Rattle.std.specs.Prelude.{◌≡◌, ℕ, List, []}
 use Rattle.model.specs.Tree.{Name, Body, dir, file, Tree, body_of, entries, named, without_any}
 use Rattle.tables.specs.Lookup.{Place}
 use Rattle.tables.specs.Edits.{Tables}
@@ -12,6 +12,13 @@ use Rattle.rows.specs.declared.nodes.Kind.TheVariants.{Dir, File}
 abbrev pub empty : Kind → Body
 empty Dir = dir []
 empty File = file []
+
+-- tables with other cells, or with other entries: whatever stands in a table that a change does not touch
+abbrev pub with_cells : List ℕ → Tables → Tables
+with_cells cs T = record { nodes = T.nodes; sums = T.sums; entries = T.entries; cells = cs; used = T.used }
+
+abbrev pub with_entries : List ℕ → Tables → Tables
+with_entries es T = record { nodes = T.nodes; sums = T.sums; entries = es; cells = T.cells; used = T.used }
 
 -- a node with that id stands at a row
 pub record AtRow (i : ℕ) (t : Tree) (row : ℕ) : Type 0 where

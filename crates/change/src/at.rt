@@ -1,81 +1,73 @@
-// Words changed for a name, and at a row of the table of nodes of which the place is read first.
+// Tables changed for a name, and at a row of the table of nodes of which the place is read first.
 ghost use Rattle.std.specs.Prelude.{◌≡◌, ◌+◌, ◌*◌, ◌<◌, ◌≤◌, length};
 ghost use Rattle.machine.specs.Tables.{entry_row};
 ghost use Rattle.tables.specs.Lookup.{row_kind, row_count, row_entries, row_cells, place_at};
 ghost use Rattle.tables.specs.Edits.{entered, gone};
 ghost use Rattle.rows.specs.Places.{place_in};
-ghost use Rattle.edit.specs.Lent.{names_in, files_in, SumsLow};
+ghost use Rattle.memory.specs.Lent.{tables_in, SameTables};
+ghost use Rattle.edit.specs.Lent.{RowsLent, EntriesUsed, SumsLow};
 
 use edit::entries::enter;
 use edit::nodes::drop_node;
+use memory::newest::Tables;
 use rows::keys::entry_row;
 use rows::nodes::{Place, place_at};
 use rows::used::Used;
 
-// The directory at a place gets one entry more, last, that gives a name to an id.
-pub fn enter_name(
-    nodes: &mut [u64],
-    sums: &mut [u64],
-    entries: &mut [u64],
-    used: Used,
-    place: Place,
-    id: u64,
-    name: &[u8],
-) -> Used
-    requires place { (place.row < used.nodes) × (place.entries + place.count ≤ used.entries) }
-    requires nodes { 4 * used.nodes ≤ length nodes.old }
-    requires sums { (2 * used.nodes ≤ length sums.old) × (SumsLow sums.old used) }
-    requires entries { 16 * used.entries + 16 ≤ length entries.old }
-    requires name { length name.now ≤ 64 }
-    ensures { names_in nodes.new sums.new entries.new result
-        ≡ entered (place_in place) (entry_row (record { name = name.entry.now; id = id }))
-        (names_in nodes.old sums.old entries.old used) }
+// What stands at a row. (Of tables that are lent to be changed, one is lent on at a time; this reads two.)
+fn read_place(tables: &Tables<'_>, row: usize) -> Place
+    requires nodes { 4 * row + 4 ≤ length tables.now.nodes.now }
+    requires sums { 2 * row + 2 ≤ length tables.now.sums.now }
+    requires kind { row_kind tables.now.nodes.now row ≤ 1 }
+    ensures { place_in result ≡ place_at row tables.now.nodes.now tables.now.sums.now }
 {
-    let row = entry_row(id, name);
-    enter(nodes, sums, entries, used, place, &row)
+    place_at(tables.nodes, tables.sums, row)
+}
+
+// The directory at a place gets one entry more, last, that gives a name to an id.
+pub fn enter_name(tables: &mut Tables<'_>, used: Used, place: Place, id: u64, name: &[u8]) -> Used
+    requires place { EntriesUsed used place }
+    requires rows { RowsLent tables.old used }
+    requires sums { SumsLow tables.old.sums.now used }
+    requires entries { 16 * used.entries + 16 ≤ length tables.old.entries.now }
+    requires name { length name.now ≤ 64 }
+    ensures same { SameTables tables.old tables.new }
+    ensures cells { tables.new.cells.now ≡ tables.old.cells.now }
+    ensures tables { tables_in tables.new result
+        ≡ entered (place_in place) (entry_row (record { name = name.entry.now; id = id })) (tables_in tables.old used) }
+{
+    enter(tables, used, place, &entry_row(id, name))
 }
 
 // The same for the directory at a row.
-pub fn enter_at(
-    nodes: &mut [u64],
-    sums: &mut [u64],
-    entries: &mut [u64],
-    used: Used,
-    row: usize,
-    id: u64,
-    name: &[u8],
-) -> Used
-    requires row { (row < used.nodes) × (row_kind nodes.old row ≤ 1) }
-    requires place { row_entries sums.old row + row_count nodes.old row ≤ used.entries }
-    requires nodes { 4 * used.nodes ≤ length nodes.old }
-    requires sums { (2 * used.nodes ≤ length sums.old) × (SumsLow sums.old used) }
-    requires entries { 16 * used.entries + 16 ≤ length entries.old }
+pub fn enter_at(tables: &mut Tables<'_>, used: Used, row: usize, id: u64, name: &[u8]) -> Used
+    requires row { (row < used.nodes) × (row_kind tables.old.nodes.now row ≤ 1) }
+    requires place { row_entries tables.old.sums.now row + row_count tables.old.nodes.now row ≤ used.entries }
+    requires rows { RowsLent tables.old used }
+    requires sums { SumsLow tables.old.sums.now used }
+    requires entries { 16 * used.entries + 16 ≤ length tables.old.entries.now }
     requires name { length name.now ≤ 64 }
-    ensures { names_in nodes.new sums.new entries.new result
-        ≡ entered (place_at row nodes.old sums.old) (entry_row (record { name = name.entry.now; id = id }))
-        (names_in nodes.old sums.old entries.old used) }
+    ensures same { SameTables tables.old tables.new }
+    ensures cells { tables.new.cells.now ≡ tables.old.cells.now }
+    ensures tables { tables_in tables.new result
+        ≡ entered (place_at row tables.old.nodes.now tables.old.sums.now)
+        (entry_row (record { name = name.entry.now; id = id })) (tables_in tables.old used) }
 {
-    let place = place_at(nodes, sums, row);
-    enter_name(nodes, sums, entries, used, place, id, name)
+    let place = read_place(tables, row);
+    enter_name(tables, used, place, id, name)
 }
 
 // The node at a row goes, with its cells.
-pub fn drop_at(
-    nodes: &mut [u64],
-    sums: &mut [u64],
-    cells: &mut [u64],
-    used: Used,
-    row: usize,
-) -> Used
-    requires row { (row < used.nodes) × (row_kind nodes.old row ≤ 1) }
-    requires place { row_cells sums.old row + row_count nodes.old row ≤ used.cells }
-    requires nodes { 4 * used.nodes ≤ length nodes.old }
-    requires sums { 2 * used.nodes ≤ length sums.old }
-    requires cells { used.cells ≤ length cells.old }
-    ensures { files_in nodes.new sums.new cells.new result
-        ≡ gone (place_at row nodes.old sums.old)
-        (files_in nodes.old sums.old cells.old used) }
+pub fn drop_at(tables: &mut Tables<'_>, used: Used, row: usize) -> Used
+    requires row { (row < used.nodes) × (row_kind tables.old.nodes.now row ≤ 1) }
+    requires place { row_cells tables.old.sums.now row + row_count tables.old.nodes.now row ≤ used.cells }
+    requires rows { RowsLent tables.old used }
+    requires cells { used.cells ≤ length tables.old.cells.now }
+    ensures same { SameTables tables.old tables.new }
+    ensures entries { tables.new.entries.now ≡ tables.old.entries.now }
+    ensures tables { tables_in tables.new result
+        ≡ gone (place_at row tables.old.nodes.now tables.old.sums.now) (tables_in tables.old used) }
 {
-    let place = place_at(nodes, sums, row);
-    drop_node(nodes, sums, cells, used, place)
+    let place = read_place(tables, row);
+    drop_node(tables, used, place)
 }

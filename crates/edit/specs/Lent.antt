@@ -1,22 +1,20 @@
--- Lent tables, and how much of them is in use, as the tables' definitions have them. Definitions only.
-use Rattle.std.specs.Prelude.{List, [], ℕ, ◌≤◌, ◌<◌}
+-- What a change of lent tables asks of them, by how much of them is in use. Definitions only.
+use Rattle.std.specs.Prelude.{List, ℕ, ◌+◌, ◌*◌, ◌≤◌, ◌<◌, length}
 use Rattle.tables.specs.Lookup.{row_entries, row_cells}
-use Rattle.tables.specs.Edits.{Tables}
+use Rattle.rows.specs.declared.nodes.Place.{Place}
 use Rattle.rows.specs.declared.used.Used.{Used}
-use Rattle.rows.specs.Places.{counts_in}
+use Rattle.memory.specs.declared.newest.Tables.{Tables}
 
-abbrev pub tables_in : List ℕ → List ℕ → List ℕ → List ℕ → Used → Tables
-tables_in ns ss es cs u = record { nodes = ns; sums = ss; entries = es; cells = cs; used = counts_in u }
+-- the rows in use of the two tables of nodes are lent
+abbrev pub RowsLent : Tables → Used → Type 0
+RowsLent t u = (4 * u.nodes ≤ length t.nodes.now) × (2 * u.nodes ≤ length t.sums.now)
 
--- the tables of a change that touches no cells, no entries, or neither: what it does not touch is left out
-abbrev pub names_in : List ℕ → List ℕ → List ℕ → Used → Tables
-names_in ns ss es u = tables_in ns ss es [] u
+-- the node at a place is in use, and its entries are; or its cells
+abbrev pub EntriesUsed : Used → Place → Type 0
+EntriesUsed u p = (p.row < u.nodes) × (p.entries + p.count ≤ u.entries)
 
-abbrev pub files_in : List ℕ → List ℕ → List ℕ → Used → Tables
-files_in ns ss cs u = tables_in ns ss [] cs u
-
-abbrev pub nodes_in : List ℕ → List ℕ → Used → Tables
-nodes_in ns ss u = tables_in ns ss [] [] u
+abbrev pub CellsUsed : Used → Place → Type 0
+CellsUsed u p = (p.row < u.nodes) × (p.cells + p.count ≤ u.cells)
 
 -- no sum of a row in use is more than what is in use
 abbrev pub SumsLow : List ℕ → Used → Type 0

@@ -1,40 +1,35 @@
 // A node that comes, and one that goes.
 ghost use Rattle.std.specs.Prelude.{◌≡◌, ◌+◌, ◌*◌, ◌^◌, ◌<◌, ◌≤◌, length};
 ghost use Rattle.tables.specs.Edits.{added, gone};
-ghost use Rattle.rows.specs.Places.{kind_number, place_in};
-ghost use Rattle.edit.specs.Lent.{files_in, nodes_in};
+ghost use Rattle.rows.specs.Kinds.{kind_number};
+ghost use Rattle.rows.specs.Places.{place_in};
+ghost use Rattle.memory.specs.Lent.{tables_in, SameTables};
+ghost use Rattle.edit.specs.Lent.{RowsLent, CellsUsed};
 
+use memory::newest::Tables;
 use rows::nodes::{Kind, Place};
 use rows::used::Used;
 use splice::sums::lower_sums;
 use splice::words::{insert_words, remove_words};
 
-// The number that the table has for a kind.
-fn number(kind: Kind) -> u64
-    ensures { result ≡ kind_number kind }
-{
-    match kind {
-        Kind::Dir => 0,
-        Kind::File => 1,
-    }
-}
-
-// A node of a kind comes last, with the next id and nothing in it. Entries and cells are not touched.
-pub fn add_node(nodes: &mut [u64], sums: &mut [u64], used: Used, kind: Kind) -> Used
+// A node of a kind comes last, with the next id and nothing in it.
+pub fn add_node(tables: &mut Tables<'_>, used: Used, kind: Kind) -> Used
     requires next { used.next + 1 < 2 ^ 64 }
-    requires nodes { 4 * used.nodes + 4 ≤ length nodes.old }
-    requires sums { 2 * used.nodes + 2 ≤ length sums.old }
-    ensures { nodes_in nodes.new sums.new result
-        ≡ added (kind_number kind) (nodes_in nodes.old sums.old used) }
+    requires nodes { 4 * used.nodes + 4 ≤ length tables.old.nodes.now }
+    requires sums { 2 * used.nodes + 2 ≤ length tables.old.sums.now }
+    ensures same { SameTables tables.old tables.new }
+    ensures entries { tables.new.entries.now ≡ tables.old.entries.now }
+    ensures cells { tables.new.cells.now ≡ tables.old.cells.now }
+    ensures tables { tables_in tables.new result ≡ added (kind_number kind) (tables_in tables.old used) }
 {
     insert_words(
-        nodes,
+        tables.nodes,
         4 * used.nodes,
         4 * used.nodes,
-        &[used.next, number(kind), 0, 0],
+        &[used.next, u64::from(kind), 0, 0],
     );
     insert_words(
-        sums,
+        tables.sums,
         2 * used.nodes,
         2 * used.nodes,
         &[used.entries as u64, used.cells as u64],
@@ -46,33 +41,20 @@ pub fn add_node(nodes: &mut [u64], sums: &mut [u64], used: Used, kind: Kind) -> 
     }
 }
 
-// The node at a place goes, with its cells: a file, or a directory without entries, of which the count is 0. Entries are
-// not touched.
-pub fn drop_node(
-    nodes: &mut [u64],
-    sums: &mut [u64],
-    cells: &mut [u64],
-    used: Used,
-    place: Place,
-) -> Used
-    requires place { (place.row < used.nodes) × (place.cells + place.count ≤ used.cells) }
-    requires nodes { 4 * used.nodes ≤ length nodes.old }
-    requires sums { 2 * used.nodes ≤ length sums.old }
-    requires cells { used.cells ≤ length cells.old }
-    ensures { files_in nodes.new sums.new cells.new result
-        ≡ gone (place_in place)
-        (files_in nodes.old sums.old cells.old used) }
+// The node at a place goes, with its cells: a file, or a directory without entries, of which the count is 0.
+pub fn drop_node(tables: &mut Tables<'_>, used: Used, place: Place) -> Used
+    requires place { CellsUsed used place }
+    requires rows { RowsLent tables.old used }
+    requires cells { used.cells ≤ length tables.old.cells.now }
+    ensures same { SameTables tables.old tables.new }
+    ensures entries { tables.new.entries.now ≡ tables.old.entries.now }
+    ensures tables { tables_in tables.new result ≡ gone (place_in place) (tables_in tables.old used) }
 {
-    remove_words(nodes, 4 * used.nodes, 4 * place.row, 4);
-    remove_words(sums, 2 * used.nodes, 2 * place.row, 2);
-    lower_sums(
-        sums,
-        place.row,
-        used.nodes - (place.row + 1),
-        0,
-        place.count,
-    );
-    remove_words(cells, used.cells, place.cells, place.count);
+    let later = used.nodes - (place.row + 1);
+    remove_words(tables.nodes, 4 * used.nodes, 4 * place.row, 4);
+    remove_words(tables.sums, 2 * used.nodes, 2 * place.row, 2);
+    lower_sums(tables.sums, place.row, later, 0, place.count);
+    remove_words(tables.cells, used.cells, place.cells, place.count);
     Used {
         nodes: used.nodes - 1,
         cells: used.cells - place.count,

@@ -2,8 +2,8 @@
 use rows::used::Used;
 
 // The tables of a tree, and how much of them is in use.
-#[derive(Clone, Copy)]
-pub struct Tables {
+#[derive(Clone, Copy, Debug, PartialEq, Eq)]
+pub struct Moment {
     pub nodes: [u64; 16],
     pub sums: [u64; 8],
     pub entries: [u64; 64],
@@ -43,7 +43,7 @@ const RENAMED: [u64; 64] = [
 ];
 
 // The first directory alone.
-pub const NEW: Tables = Tables {
+pub const NEW: Moment = Moment {
     nodes: [0; 16],
     sums: [0; 8],
     entries: [0; 64],
@@ -57,7 +57,7 @@ pub const NEW: Tables = Tables {
 };
 
 // It has a file, "a".
-pub const FILE: Tables = Tables {
+pub const FILE: Moment = Moment {
     nodes: [0, 0, 1, 0, 1, 1, 0, 0, 0, 0, 0, 0, 0, 0, 0, 0],
     sums: [0, 0, 1, 0, 0, 0, 0, 0],
     entries: FIRST,
@@ -71,7 +71,7 @@ pub const FILE: Tables = Tables {
 };
 
 // It has a directory, "d", too.
-pub const DIR: Tables = Tables {
+pub const DIR: Moment = Moment {
     nodes: [0, 0, 2, 0, 1, 1, 0, 0, 2, 0, 0, 0, 0, 0, 0, 0],
     sums: [0, 0, 2, 0, 2, 0, 0, 0],
     entries: SECOND,
@@ -85,7 +85,7 @@ pub const DIR: Tables = Tables {
 };
 
 // In "d" is a file, "b".
-pub const INNER: Tables = Tables {
+pub const INNER: Moment = Moment {
     nodes: [0, 0, 2, 0, 1, 1, 0, 0, 2, 0, 1, 0, 3, 1, 0, 0],
     sums: [0, 0, 2, 0, 2, 0, 3, 0],
     entries: THIRD,
@@ -99,7 +99,7 @@ pub const INNER: Tables = Tables {
 };
 
 // "a" has two cells.
-pub const LONG: Tables = Tables {
+pub const LONG: Moment = Moment {
     nodes: [0, 0, 2, 0, 1, 1, 2, 0, 2, 0, 1, 0, 3, 1, 0, 0],
     sums: [0, 0, 2, 0, 2, 2, 3, 2],
     entries: THIRD,
@@ -113,7 +113,7 @@ pub const LONG: Tables = Tables {
 };
 
 // "b" has three, after those.
-pub const BOTH: Tables = Tables {
+pub const BOTH: Moment = Moment {
     nodes: [0, 0, 2, 0, 1, 1, 2, 0, 2, 0, 1, 0, 3, 1, 3, 0],
     sums: [0, 0, 2, 0, 2, 2, 3, 2],
     entries: THIRD,
@@ -127,7 +127,7 @@ pub const BOTH: Tables = Tables {
 };
 
 // "a" has its first cell only.
-pub const SHORT: Tables = Tables {
+pub const SHORT: Moment = Moment {
     nodes: [0, 0, 2, 0, 1, 1, 1, 0, 2, 0, 1, 0, 3, 1, 3, 0],
     sums: [0, 0, 2, 0, 2, 1, 3, 1],
     entries: THIRD,
@@ -141,7 +141,7 @@ pub const SHORT: Tables = Tables {
 };
 
 // "a" is removed.
-pub const WITHOUT: Tables = Tables {
+pub const WITHOUT: Moment = Moment {
     nodes: [0, 0, 1, 0, 2, 0, 1, 0, 3, 1, 3, 0, 0, 0, 0, 0],
     sums: [0, 0, 1, 0, 2, 0, 0, 0],
     entries: FEWER,
@@ -155,7 +155,7 @@ pub const WITHOUT: Tables = Tables {
 };
 
 // What was "b" in "d" is "a" in the first directory.
-pub const MOVED: Tables = Tables {
+pub const MOVED: Moment = Moment {
     nodes: [0, 0, 2, 0, 2, 0, 0, 0, 3, 1, 3, 0, 0, 0, 0, 0],
     sums: [0, 0, 2, 0, 2, 0, 0, 0],
     entries: RENAMED,

@@ -1,8 +1,19 @@
 -- THE HEAD AS WORDS. Definitions only.
-use Rattle.std.specs.Prelude.{◌≡◌, ℕ, List, set, ◌==◌, slice_index, slice_set}
+use Rattle.std.specs.Prelude.{◌≡◌, ℕ, List, [], ◌∷◌, set, ◌==◌, slice_index, slice_set}
 use Rattle.machine.specs.Journal.{bit_word}
 use Rattle.memory.specs.declared.status.Head.{Head}
 use Rattle.memory.specs.declared.status.Status.{Status}
+
+-- the six words of the head that change, from its fifth on, read and written
+abbrev pub from_words : List ℕ → Head
+from_words ws = record {
+  used = record { next = slice_index ws 3; nodes = slice_index ws 0; entries = slice_index ws 1; cells = slice_index ws 2 };
+  older = slice_index ws 4;
+  over = (slice_index ws 5 == 1);
+}
+
+abbrev pub to_words : Head → List ℕ
+to_words h = h.used.nodes ∷ h.used.entries ∷ h.used.cells ∷ h.used.next ∷ h.older ∷ bit_word h.over ∷ []
 
 abbrev pub head_from : List ℕ → Head
 head_from ws = record {

@@ -8,6 +8,7 @@ use lookup::view::Tree;
 use rows::used::Used;
 
 // Nodes, four words each; sums, two for each node; entries, sixteen each; cells, one each.
+// kept: the board lends plain words, so a table has no rows of a type of its own
 #[derive(Drop)]
 pub struct Tables<'a> {
     pub nodes: &'a mut [u64],

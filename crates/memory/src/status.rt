@@ -1,7 +1,7 @@
 // What memory has besides the tables of the newest tree: the head, the superblock's words, and three maps of data blocks.
 ghost use Rattle.std.specs.Prelude.{◌≡◌, length};
 ghost use Rattle.memory.specs.Lent.{SameStatus};
-ghost use Rattle.memory.specs.Head.{head_from, head_with, OnlyHead};
+ghost use Rattle.memory.specs.Head.{head_from, head_with, from_words, to_words, OnlyHead};
 
 use rows::used::Used;
 
@@ -17,11 +17,45 @@ pub struct Status<'a> {
 }
 
 // What the head says: how much of the tables is in use, how many older trees there are, and whether the journal is over.
-#[derive(Clone, Copy)]
+#[derive(Clone, Copy, Debug, PartialEq, Eq)]
 pub struct Head {
     pub used: Used,
     pub older: u64,
     pub over: bool,
+}
+
+impl From<[u64; 6]> for Head {
+    // What six words of the head say.
+    ghost from_gives = { λ words head. head ≡ from_words words };
+
+    fn from([nodes, entries, cells, next, older, over]: [u64; 6]) -> Head {
+        Head {
+            used: Used {
+                next,
+                nodes: nodes as usize,
+                entries: entries as usize,
+                cells: cells as usize,
+            },
+            older,
+            over: over == 1,
+        }
+    }
+}
+
+impl From<Head> for [u64; 6] {
+    // The words that say it.
+    ghost from_gives = { λ head words. words ≡ to_words head };
+
+    fn from(head: Head) -> [u64; 6] {
+        [
+            head.used.nodes as u64,
+            head.used.entries as u64,
+            head.used.cells as u64,
+            head.used.next,
+            head.older,
+            u64::from(head.over),
+        ]
+    }
 }
 
 impl Status<'_> {
@@ -30,16 +64,7 @@ impl Status<'_> {
         requires { length self.now.head.now ≡ 16 }
         ensures { result ≡ head_from self.now.head.now }
     {
-        Head {
-            used: Used {
-                next: self.head[7],
-                nodes: self.head[4] as usize,
-                entries: self.head[5] as usize,
-                cells: self.head[6] as usize,
-            },
-            older: self.head[8],
-            over: self.head[9] == 1,
-        }
+        Head::from(*self.head[4..].first_chunk::<6>().unwrap())
     }
 
     // Writes it into the head.
@@ -49,11 +74,6 @@ impl Status<'_> {
         ensures only { OnlyHead self.old self.new }
         ensures head { self.new.head.now ≡ head_with head self.old.head.now }
     {
-        self.head[4] = head.used.nodes as u64;
-        self.head[5] = head.used.entries as u64;
-        self.head[6] = head.used.cells as u64;
-        self.head[7] = head.used.next;
-        self.head[8] = head.older;
-        self.head[9] = if head.over { 1 } else { 0 };
+        self.head[4..10].copy_from_slice(&<[u64; 6]>::from(head));
     }
 }

@@ -1,60 +1,46 @@
-use Rattle.std.proofs.Common.{◌≡◌, ℕ, ◌+◌, ◌*◌, ◌<◌, ◌≤◌, List, length, sym, refl, ap, ◌∙◌, subst, arith}
-use borrow.Rule.Slice.PartMut.{put_mid}
+use Rattle.std.proofs.Common.{◌≡◌, ℕ, ◌+◌, ◌-◌, ◌*◌, ◌<◌, ◌≤◌, List, length, take, drop, sym, refl, ap, ◌∙◌, subst, arith, length-take, length-drop}
 use Rattle.std.specs.List.{AllByRecursion}
-use Rattle.blocks.specs.Words.{part}
+use borrow.Rule.Slice.PartMut.{put_mid}
 use Rattle.blocks.specs.Bits.{bits_of}
-use Rattle.machine.specs.State.{count_set, free, marked}
-use Rattle.machine.proofs.Counting.{free-length}
+use Rattle.machine.specs.State.{free, marked}
 use Rattle.bitmap.proofs.Maps.{length_bits}
 use Rattle.bitmap.proofs.Padded.{free_below}
-use Rattle.allocate.proofs.Parts.{part_put}
 use Rattle.allocate.proofs.claim.Goals as goal
 
--- the blocks that were taken stand in the part, and are below the number of bits
-module _ (at n : ℕ) (held cells after : List ℕ) (fits : at + n ≤ length cells) (enough : n + count_set (bits_of held) ≤ 64 * length held)
-    (e : after ≡ put_mid at n cells (free n (bits_of held) 0)) where
-  taken : part at n after ≡ free n (bits_of held) 0
-  taken =
-      ap (part at n) e
-      ∙ part_put at n cells (free n (bits_of held) 0) fits (free-length n (bits_of held) 0 (omega (arith, length_bits held)))
+-- the free blocks of a map are below the bits of another as long
+below : (n : ℕ) (held map row : List ℕ) → length map ≡ length held → row ≡ free n (bits_of held) 0 →
+    AllByRecursion (λ x. x < 64 * length map) row
+below n held map row same e =
+    subst (λ k. AllByRecursion (λ x. x < k) row) (length_bits held ∙ ap (λ k. 64 * k) (sym same)) (rw e (free_below n (bits_of held)))
 
-  below : (m : ℕ) → m ≡ length held → AllByRecursion (λ x. x < 64 * m) (part at n after)
-  below m same =
-      rw taken (subst (λ k. AllByRecursion (λ x. x < k) (free n (bits_of held) 0)) (length_bits held ∙ ap (λ k. 64 * k) (sym same))
-      (free_below n (bits_of held)))
+-- a part that is lent has as many words as were asked for
+long : (at n : ℕ) (cells : List ℕ) → at + n ≤ length cells → length (take ((at + n) - at) (drop at cells)) ≡ n
+long at n cells fits = simp (length-take, length-drop) (omega arith)
 
-pub mark_part-requires : goal.mark_part-requires
-mark_part-requires c = record {
-  part = omega (arith, c.take_part.auto.cells, c.requires.cells);
-  below = below c.args.at c.args.count c.args.status.now.held.now c.args.tables.now.cells.now
-      c.take_part.new.cells c.requires.cells c.requires.enough c.take_part.ensures.taken _ c.requires.fresh;
-}
+pub mark_all-requires : goal.mark_all-requires
+mark_all-requires c = below _ c.args.status.now.held.now _ _ c.requires.fresh c.take_lowest.ensures.taken
 
-pub mark_part-requires-2 : goal.mark_part-requires-2
-mark_part-requires-2 c = record {
-  part = omega (arith, c.take_part.auto.cells, c.requires.cells);
-  below = below c.args.at c.args.count c.args.status.now.held.now c.args.tables.now.cells.now
-      c.take_part.new.cells c.requires.cells c.requires.enough c.take_part.ensures.taken _ c.requires.own;
-}
+pub mark_all-requires-2 : goal.mark_all-requires-2
+mark_all-requires-2 c = below _ c.args.status.now.held.now _ _ c.requires.own c.take_lowest.ensures.taken
 
-pub returns : goal.returns
-returns c =
-    let t = taken c.args.at c.args.count c.args.status.now.held.now c.args.tables.now.cells.now
-    c.take_part.new.cells c.requires.cells c.requires.enough c.take_part.ensures.taken in
+pub returns-clause-claimed : goal.returns-clause-claimed
+returns-clause-claimed c =
+    let at = c.args.at in
+    let held = c.args.status.now.held.now in
+    let cells = c.args.tables.now.cells.now in
+    let e : (at + c.args.count) - at ≡ c.args.count = omega arith in
+    let t : c.take_lowest.new.out ≡ free c.args.count (bits_of held) 0 =
+    c.take_lowest.ensures.taken ∙ ap (λ n. free n (bits_of held) 0) (long at c.args.count cells c.requires.cells) in
     record {
-      tables = record { nodes = refl; sums = refl; entries = refl; cells = refl };
-      status = record { head = refl; superblock = refl; held = refl; fresh = refl; own = refl };
-      claimed = record {
-        nodes = refl;
-        sums = refl;
-        entries = refl;
-        cells = c.take_part.ensures.taken;
-        head = refl;
-        superblock = refl;
-        held = c.take_part.ensures.bits;
-        fresh = c.mark_part.ensures.bits ∙ ap (λ ks. marked ks (bits_of c.args.status.now.fresh.now)) t;
-        words = (c.take_part.ensures.words, c.mark_part.ensures.words, c.mark_part-2.ensures.words);
-        long = (c.take_part.auto.map, c.mark_part.auto.map, c.mark_part-2.auto.map);
-        own = c.mark_part-2.ensures.bits ∙ ap (λ ks. marked ks (bits_of c.args.status.now.own.now)) t;
-      };
+      nodes = refl;
+      sums = refl;
+      entries = refl;
+      cells = rw e (ap (put_mid at c.args.count cells) t);
+      head = refl;
+      superblock = refl;
+      held = c.take_lowest.ensures.bits ∙ ap (λ n. marked (free n (bits_of held) 0) (bits_of held)) (long at c.args.count cells c.requires.cells);
+      fresh = c.mark_all.ensures ∙ ap (λ ks. marked ks (bits_of c.args.status.now.fresh.now)) t;
+      own = c.mark_all-2.ensures ∙ ap (λ ks. marked ks (bits_of c.args.status.now.own.now)) t;
+      words = (c.maps_fit.ensures.held, c.maps_fit.ensures.fresh, c.maps_fit.ensures.own);
+      long = (c.take_lowest.auto.map, c.mark_all.auto.map, c.mark_all-2.auto.map);
     }

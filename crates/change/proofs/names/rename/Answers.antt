@@ -3,11 +3,12 @@ use Rattle.machine.specs.Tables.{entry_row}
 use Rattle.tables.specs.Lookup.{place_at}
 use Rattle.tables.specs.Edits.{Tables, entered}
 use Rattle.tables.specs.Stands.{Holds}
-use Rattle.tables.proofs.Ranges.{in_range}
+use Rattle.tables.proofs.Ranges.{in_bounds, in_range}
 use Rattle.tables.proofs.Operations.{moved_holds}
-use Rattle.change.proofs.Untouched.{with_cells}
 use Rattle.tables.proofs.Reaches.{reach}
 use Rattle.tables.proofs.Bodies.{kind_small}
+use Rattle.change.specs.Given.{with_cells}
+use Rattle.change.proofs.Reached.{rows, entries_used}
 use Rattle.change.proofs.Gone.{still_dir, index_low, left_for, stood}
 use Rattle.change.proofs.names.rename.Goals as goal
 
@@ -15,42 +16,48 @@ pub leave-fewer-requires : goal.leave-fewer-requires
 leave-fewer-requires c =
     let g = c.requires.given.1.dir in
     let r = reach g.holds in
-    let w = in_range _ _ _ _ _ _ g.holds g.stands in
     record {
-      place = (w.row, w.dir_entries c.requires.dir);
+      place = entries_used g c.requires.dir;
       index = index_low g c.requires.dir c.requires.given.1.entry;
-      nodes = r.nodes;
-      sums = r.sums;
+      rows = rows r;
       entries = r.entries;
     }
 
 pub enter_at-requires : goal.enter_at-requires
 enter_at-requires c =
     let g = c.requires.given.1 in
-    let e = ap (with_cells c.requires.given.0) c.leave-fewer.ensures in
+    let e = ap (with_cells c.requires.given.0) c.leave-fewer.ensures.tables in
     let h = left_for g.dir c.requires.dir g.entry e in
     let s = stood g.dir c.requires.dir g.entry e g.at in
     let r = reach h in
     let w = in_range _ _ _ _ _ _ h s in
-    let before = reach g.dir.holds in
     let v = in_range _ _ _ _ _ _ g.dir.holds g.dir.stands in
     let ue = ap (λ (T : Tables). T.used.entries) e in
+    let b = in_bounds _ _ _ _ h in
     record {
       row = (w.row, kind_small s);
       place = w.dir_entries (still_dir _ g.dir.stands g.at.stands g.to_dir s);
-      nodes = r.nodes;
-      sums = (r.sums, r.low);
-      entries = omega (arith, ue, before.entries, v.dir_entries c.requires.dir, index_low g.dir c.requires.dir g.entry);
+      rows = rows r;
+      sums = r.low;
+      entries =
+          omega (
+            arith,
+            ue,
+            b.entries_long,
+            g.dir.holds.entries_fit,
+            v.dir_entries c.requires.dir,
+            index_low g.dir c.requires.dir g.entry,
+          );
       name = c.requires.name;
     }
 
-pub returns : goal.returns
-returns c = λ cs g.
-    let e = ap (with_cells cs) c.leave-fewer.ensures in
+pub returns-clause-holds : goal.returns-clause-holds
+returns-clause-holds c = λ cs g.
+    let e = ap (with_cells cs) c.leave-fewer.ensures.tables in
     let s = stood g.dir c.requires.dir g.entry e g.at in
-    let q = place_at c.args.row c.leave-fewer.new.nodes c.leave-fewer.new.sums in
+    let q = place_at c.args.row c.leave-fewer.new.tables.nodes.now c.leave-fewer.new.tables.sums.now in
     let row = entry_row (record { name = c.args.name.now; id = c.args.id }) in
-    let all = ap (with_cells cs) c.enter_at.ensures ∙ ap (entered q row) e in
+    let all = ap (with_cells cs) c.enter_at.ensures.tables ∙ ap (entered q row) e in
     subst (Holds g.dir.most g.dir.room _) (sym all)
     (moved_holds g.whole g.dir.tree _ g.dir.id _ g.name g.to q c.args.name.now c.args.id c.args.index
     g.rest g.dir.holds g.dir.stands c.requires.dir g.entry s

@@ -1,37 +1,14 @@
-use Rattle.std.proofs.Common.{[], ◌∷◌, replicate, refl, lit<, lit≤}
+use Rattle.std.proofs.Common.{[], ◌∷◌, refl, lit≤}
 use Rattle.model.specs.Tree.{dir, file, find_node, all_cells, entries, cells}
 use Rattle.machine.specs.State.{entry_count}
 use Rattle.edit_tests.specs.Moments.{entry, node, t_file}
-use Rattle.edit_tests.proofs.Small.{small}
+use Rattle.edit_tests.proofs.Small.{held}
 use Rattle.edit_tests.proofs.steps.make_dir.Goals as goal
 
-pub make-used-requires : goal.make-used-requires
+pub make-next-requires-clause-held : goal.make-next-requires-clause-held
 unfolding find_node all_cells entries cells entry_count
-make-used-requires c = record {
-  held = (
-    replicate 6 0,
-    record {
-      most = 4;
-      room = 6;
-      tree = t_file;
-      id = 0;
-      holds = small t_file (lit≤ tt) (lit≤ tt) (lit≤ tt);
-      stands = record {
-        pre = [];
-        body = dir (entry 97 1 ∷ []);
-        post = node 1 (file ([])) ∷ [];
-        whole = refl;
-        first = refl;
-        row = refl;
-        kind = refl;
-        count = refl;
-        entries = refl;
-        cells = refl;
-      };
-    },
-  );
-  dir = refl;
-  name = lit≤ tt;
-  node_room = (lit≤ tt, lit< tt);
-  entry_room = lit≤ tt;
-}
+make-next-requires-clause-held c = (
+  c.tables.result.cells.now,
+  held t_file 0 (dir (entry 97 1 ∷ [])) [] (node 1 (file ([])) ∷ []) refl refl
+      c.tables.ensures refl (lit≤ tt) (lit≤ tt) (lit≤ tt),
+)
