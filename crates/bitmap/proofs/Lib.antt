@@ -2,6 +2,7 @@
 --   Lists               elements of lists
 --   WordBits            the bits of one word
 --   Maps                the bits of a list of words: one read or written, words skipped
+--   Each                many bits set or cleared
 --   Lowest              the lowest clear bit, and taking it
 --   Counting            set bits counted, word by word
 --   Places, Shared      the places of set bits; bits that are set in two maps
@@ -9,6 +10,7 @@
 pub mod Lists
 pub mod WordBits
 pub mod Maps
+mod Each
 pub mod Lowest
 pub mod Places
 pub mod Counting

@@ -1,5 +1,7 @@
--- Elements of lists: of two, one after the other, and of what follows a first element.
-use Rattle.std.proofs.Common.{◌≡◌, ℕ, zero, suc, ◌-◌, ◌<◌, ◌≤◌, List, [], ◌∷◌, ◌++◌, length, get_or, refl, ap, ◌∙◌, arith}
+-- Elements of lists: of two, one after the other, and of what is left of one; and what a search tells.
+use Rattle.std.proofs.Common.{◌≡◌, ℕ, zero, suc, ◌+◌, ◌-◌, ◌<◌, ◌≤◌, List, [], ◌∷◌, ◌++◌, length, get_or, drop, ltb, cond, true, false, Some, None, inl, inr, refl, sym, ap, ◌∙◌, arith, drop-drop, length-drop}
+use Rattle.std.proofs.lemmas.Bool.{cases_lt, lt-ltb, le-ltb}
+use Rattle.std.proofs.lemmas.List.{get_or-drop}
 use Rattle.std.specs.List.{slice_get}
 
 pub nth_left : (xs ys : List ℕ) (n : ℕ) → n < length xs → slice_get (xs ++ ys) n ≡ slice_get xs n
@@ -12,6 +14,25 @@ nth_right [] ys n h = ap (slice_get ys) (omega arith)
 nth_right (x ∷ xs) ys zero h = absurd (omega arith)
 nth_right (x ∷ xs) ys (suc n) h = nth_right xs ys n (omega arith) ∙ ap (slice_get ys) (omega arith)
 
-pub get_or_later : (x : ℕ) (xs : List ℕ) (n d : ℕ) → 0 < n → get_or (x ∷ xs) n d ≡ get_or xs (n - 1) d
-get_or_later x xs zero d h = absurd (omega arith)
-get_or_later x xs (suc n) d h = ap (λ m. get_or xs m d) (omega arith)
+-- what a search tells: the place at which it ended, or that it passed the end
+pub place_some : (k n i : ℕ) → cond (ltb k n) (Some k) None ≡ Some i → (k ≡ i) × (k < n)
+place_some k n i e = elim (cases_lt k n) [
+  | inl h ↦ let t : ltb k n ≡ true = lt-ltb k n h in let s : Some k ≡ Some i = rw t at e in (cc, h)
+  | inr h ↦ let t : ltb k n ≡ false = le-ltb k n h in let s : None ≡ Some i = rw t at e in absurd (cc)
+]
+
+pub place_none : (k n : ℕ) → cond (ltb k n) (Some k) None ≡ None → n ≤ k
+place_none k n e = elim (cases_lt k n) [
+  | inl h ↦ let t : ltb k n ≡ true = lt-ltb k n h in let s : Some k ≡ None = rw t at e in absurd (cc)
+  | inr h ↦ h
+]
+
+-- the next of what is left of a list
+pub drop_step : (xs rest : List ℕ) (n x : ℕ) → drop n xs ≡ x ∷ rest → (n < length xs) × (get_or xs n 0 ≡ x) × (rest ≡ drop (n + 1) xs)
+drop_step xs rest n x e =
+    let z : n + 0 ≡ n = omega arith in
+    let g : get_or (drop n xs) 0 0 ≡ get_or xs (n + 0) 0 = get_or-drop n xs 0 0 in (
+      omega (arith, ap length e, length-drop n xs),
+      ap (λ i. get_or xs i 0) (sym z) ∙ (sym g ∙ ap (λ ys. get_or ys 0 0) e),
+      sym (ap (drop 1) e) ∙ drop-drop 1 n xs,
+    )

@@ -1,13 +1,17 @@
 -- The lowest clear bit: found word by word, and taken. Taking it makes the next one no lower, and one clear bit fewer.
-use Rattle.std.proofs.Common.{◌≡◌, ℕ, zero, suc, ◌+◌, ◌-◌, ◌*◌, ◌^◌, ◌<◌, ◌≤◌, Bool, true, false, List, [], ◌∷◌, ◌++◌, length, get_or, take, drop, set, sym, refl, ap, ◌∙◌, append_assoc, arith}
+use Rattle.std.proofs.Common.{◌≡◌, ℕ, zero, suc, ◌+◌, ◌-◌, ◌*◌, ◌^◌, ◌<◌, ◌≤◌, Bool, true, false, List, [], ◌∷◌, ◌++◌, length, get_or, take, drop, set, Some, None, not, eqb, ltb, sym, refl, ap, ◌∙◌, append_assoc, arith, length-drop}
+use Rattle.std.proofs.lemmas.Bool.{lt-ltb, le-ltb}
+use Rattle.std.specs.List.{position_or_len}
+use Rattle.std.proofs.lemmas.List.Sums.{fails_before_first, passes_at_first, prefix_len-le-length}
+use Rattle.std.proofs.lemmas.Bool.Decides.{nat_tests}
 use lib.Count.{count_trailing_zeros, trailing_of_zero}
-use Rattle.std.proofs.lemmas.List.{at_drop_more, at_drop_all, take_more_set}
+use Rattle.std.proofs.lemmas.List.{at_drop_more, at_drop_all, take_more_set, get_or-drop}
 use Rattle.blocks.specs.Bits.{word_bits, bits_of}
 use Rattle.machine.specs.State.{count_set, free, marked}
-use Rattle.bitmap.specs.Bitmap.{lowest_clear}
+use Rattle.bitmap.specs.Bitmap.{lowest_clear, lowest_in}
 use Rattle.bitmap.specs.Laws.{FreeFirst, LowestRises, CountRises}
 use Rattle.bitmap.proofs.WordBits.{length_word, lowest_word, not_full_word}
-use Rattle.bitmap.proofs.Maps.{drop_bits}
+use Rattle.bitmap.proofs.Maps.{drop_bits, length_bits}
 
 -- of two rows, one after the other
 lowest_full : (xs ys : List Bool) → lowest_clear xs ≡ length xs → lowest_clear (xs ++ ys) ≡ length xs + lowest_clear ys
@@ -60,6 +64,70 @@ lowest_hit ws i h b ne =
 
 pub lowest_end : (ws : List ℕ) (i : ℕ) → length ws ≤ i → lowest_clear (bits_of (drop i ws)) ≡ 0
 lowest_end ws i h = at_drop_all (λ xs. lowest_clear (bits_of xs)) ws i h
+
+-- the lowest clear bit as an answer, where there is one and where there is none
+pub lowest_is : (bs : List Bool) → lowest_clear bs < length bs → lowest_in bs ≡ Some (lowest_clear bs)
+lowest_is bs l = let t : ltb (lowest_clear bs) (length bs) ≡ true = lt-ltb (lowest_clear bs) (length bs) l in rw t refl
+
+pub lowest_some : (bs : List Bool) (k : ℕ) → lowest_clear bs < length bs → lowest_in bs ≡ Some k → k ≡ lowest_clear bs
+lowest_some bs k l e = let s = lowest_is bs l in cc
+
+pub lowest_none : (bs : List Bool) → lowest_clear bs ≡ length bs → lowest_in bs ≡ None
+lowest_none bs e = let t : ltb (length bs) (length bs) ≡ false = le-ltb (length bs) (length bs) (omega arith) in rw (e, t) refl
+
+-- n full words
+full_run : (ws : List ℕ) (i n : ℕ) → i + n ≤ length ws → ((k : ℕ) → k < n → get_or ws (i + k) 0 ≡ 2 ^ 64 - 1) →
+    64 * i + lowest_clear (bits_of (drop i ws)) ≡ 64 * (i + n) + lowest_clear (bits_of (drop (i + n) ws))
+full_run ws i zero h full = let z : i + 0 ≡ i = omega arith in rw z refl
+full_run ws i (suc n) h full =
+    let s : i + suc n ≡ (i + n) + 1 = omega arith in
+    rw s (full_run ws i n (omega arith) (λ k l. full k (omega arith)) ∙ lowest_miss ws (i + n) (omega arith) (full n (omega arith)))
+
+-- is a word not full?
+abbrev pub has_clear : ℕ → Bool
+has_clear w = not (eqb w (2 ^ 64 - 1))
+
+no_clear : (w : ℕ) → has_clear w ≡ false → w ≡ 2 ^ 64 - 1
+no_clear w e = grind (arith, nat_tests)
+
+not_full : (w : ℕ) → has_clear w ≡ true → w ≡ 2 ^ 64 - 1 → ⊥
+not_full w e f = grind (arith, nat_tests)
+
+-- a search for a word that is not full, from one on: where it ended, and what the lowest clear bit then is
+module _ (ws : List ℕ) (fits : (k : ℕ) → get_or ws k 0 < 2 ^ 64) (from n : ℕ) (inside : from ≤ length ws)
+    (start : 64 * from ≤ lowest_clear (bits_of ws)) (ended : position_or_len has_clear (drop from ws) ≡ n) where
+  passed : from + n ≤ length ws → 64 * (from + n) + lowest_clear (bits_of (drop (from + n) ws)) ≡ lowest_clear (bits_of ws)
+  passed h =
+      let all : (k : ℕ) → k < n → get_or ws (from + k) 0 ≡ 2 ^ 64 - 1 = λ k l.
+      sym (get_or-drop from ws k 0)
+      ∙ no_clear (get_or (drop from ws) k 0) (fails_before_first has_clear (drop from ws) k 0 (rw ended l)) in
+      sym (full_run ws from n h all) ∙ lowest_start ws from start
+
+  pub search_hit : n < length (drop from ws) →
+      Some (64 * (from + n) + count_trailing_zeros 64 (2 ^ 64 - 1 - get_or ws (from + n) 0)) ≡ lowest_in (bits_of ws)
+  search_hit l =
+      let d = length-drop from ws in
+      let w : ℕ = get_or ws (from + n) 0 in
+      let p = passed (omega arith) in
+      let f : w < 2 ^ 64 = fits (from + n) in
+      let pass = passes_at_first has_clear (drop from ws) 0 (rw ended l) in
+      let has : has_clear w ≡ true = ap has_clear (sym (get_or-drop from ws n 0)) ∙ rw ended at pass in
+      let hit = lowest_hit ws (from + n) (omega arith) f (not_full w has) in
+      let few = not_full_word w f (not_full w has) in
+      let low = lowest_word w f in
+      let b = length_bits ws in
+      let e : lowest_clear (bits_of ws) ≡ 64 * (from + n) + count_trailing_zeros 64 (2 ^ 64 - 1 - w) = omega arith in
+      sym (lowest_is (bits_of ws) (omega arith) ∙ ap Some e)
+
+  pub search_miss : length (drop from ws) ≤ n → None ≡ lowest_in (bits_of ws)
+  search_miss l =
+      let d = length-drop from ws in
+      let b = length_bits ws in
+      let m = prefix_len-le-length (λ w. not (has_clear w)) (drop from ws) in
+      let all : from + n ≡ length ws = omega arith in
+      let p = passed (omega arith) in
+      let z = lowest_end ws (from + n) (omega arith) in
+      sym (lowest_none (bits_of ws) (omega arith))
 
 -- taking it
 pub some_clear : (bs : List Bool) → count_set bs < length bs → lowest_clear bs < length bs

@@ -1,9 +1,11 @@
--- The places of set bits: how many there are, places moved up, and a word's places one bit after another.
-use Rattle.std.proofs.Common.{◌≡◌, ℕ, zero, suc, ◌+◌, ◌-◌, ◌/◌, ◌%◌, ◌<◌, ◌≤◌, Bool, true, false, List, [], ◌∷◌, length, get_or, refl, ap, ◌∙◌, arith}
-use Rattle.blocks.specs.Bits.{low_bits}
+-- The places of set bits: how many there are, places moved up, and those that a test of each bit finds.
+use Rattle.std.proofs.Common.{◌≡◌, ℕ, zero, suc, ◌+◌, ◌/◌, ◌^◌, ◌<◌, Bool, eqb, true, false, List, [], ◌∷◌, length, get_or, refl, sym, ap, ◌∙◌, arith}
+use lib.Bits.{bit_and, and_mask}
+use Rattle.std.specs.List.{filter, range_with_len}
+use Rattle.blocks.specs.Bits.{word_bits}
 use Rattle.machine.specs.State.{count_set}
 use Rattle.bitmap.specs.Bitmap.{set_places}
-use Rattle.bitmap.proofs.Lists.{get_or_later}
+use Rattle.bitmap.proofs.WordBits.{length_word, get_word}
 
 pub length-places : (bs : List Bool) (k : ℕ) → length (set_places bs k) ≡ count_set bs
 unfolding set_places count_set
@@ -22,39 +24,27 @@ shift_places (true ∷ bs) k j (suc n) d e h =
 shift_places (false ∷ bs) k j n d e h =
     ap (λ m. get_or (set_places bs m) n d) (omega arith) ∙ shift_places bs k (suc j) n d e (omega arith)
 
--- one bit of a word
-module _ (m w p : ℕ) where
-  place_set : w % 2 ≡ 1 → set_places (low_bits (suc m) w) p ≡ (p ∷ set_places (low_bits m (w / 2)) (p + 1))
-  unfolding set_places
-  place_set e = let s : p + 1 ≡ suc p = omega arith in rw (e, s)
-
-  place_clear : w % 2 ≡ 0 → set_places (low_bits (suc m) w) p ≡ set_places (low_bits m (w / 2)) (p + 1)
-  unfolding set_places
-  place_clear e = let s : p + 1 ≡ suc p = omega arith in rw (e, s)
-
--- the n-th set bit of what is left of a word at bit p: bit p itself, or one after it
-abbrev pub nth_left_of : ℕ → ℕ → ℕ → ℕ
-nth_left_of w p n = get_or (set_places (low_bits (64 - p) w) p) n 64
-
-module _ (w p n : ℕ) (h : p < 64) where
-  more : 64 - p ≡ suc (64 - (p + 1))
-  more = omega arith
-
-  pub nth_here : w % 2 ≡ 1 → n ≡ 0 → nth_left_of w p n ≡ p
-  nth_here e z =
-      ap (λ m. get_or (set_places (low_bits m w) p) n 64) more
-      ∙ (ap (λ t. get_or t n 64) (place_set (64 - (p + 1)) w p e) ∙ rw z)
-
-  pub nth_after_set : w % 2 ≡ 1 → 0 < n → nth_left_of w p n ≡ nth_left_of (w / 2) (p + 1) (n - 1)
-  nth_after_set e l =
-      ap (λ m. get_or (set_places (low_bits m w) p) n 64) more
-      ∙ (ap (λ t. get_or t n 64) (place_set (64 - (p + 1)) w p e)
-      ∙ get_or_later p (set_places (low_bits (64 - (p + 1)) (w / 2)) (p + 1)) n 64 l)
-
-  pub nth_after_clear : w % 2 ≡ 0 → nth_left_of w p n ≡ nth_left_of (w / 2) (p + 1) n
-  nth_after_clear e =
-      ap (λ m. get_or (set_places (low_bits m w) p) n 64) more ∙ ap (λ t. get_or t n 64) (place_clear (64 - (p + 1)) w p e)
-
-pub nth_none : (w p n : ℕ) → 64 ≤ p → nth_left_of w p n ≡ 64
+-- numbers that pass a test, where it reads the bits
+pub places_pass : (f : ℕ → Bool) (bs : List Bool) (p : ℕ) → ((k : ℕ) → k < length bs → f (p + k) ≡ get_or bs k false) →
+    filter f (range_with_len p (length bs)) ≡ set_places bs p
 unfolding set_places
-nth_none w p n h = let z : 64 - p ≡ 0 = omega arith in rw z
+places_pass f [] p e = refl
+places_pass f (b ∷ bs) p e =
+    let z : p + 0 ≡ p = omega arith in
+    let s : p + 1 ≡ suc p = omega arith in
+    let first : f p ≡ b = ap f (sym z) ∙ e 0 (omega arith) in
+    let i : filter f (range_with_len (suc p) (length bs)) ≡ set_places bs (suc p) =
+    places_pass f bs (suc p) (λ k l. ap f (omega arith) ∙ e (suc k) (omega arith)) in
+    rw (first, s, i) refl
+
+-- the test of a word's bit
+abbrev pub bit_set : ℕ → ℕ → Bool
+bit_set w p = eqb (bit_and (w / 2 ^ p) 1) 1
+
+pub word_places : (w : ℕ) → filter (bit_set w) (range_with_len 0 64) ≡ set_places (word_bits w) 0
+word_places w =
+    let l = length_word w in
+    let reads : (k : ℕ) → k < length (word_bits w) → bit_set w (0 + k) ≡ get_or (word_bits w) k false = λ k h.
+    let z : 0 + k ≡ k = omega arith in
+    rw z (ap (λ x. eqb x 1) (and_mask (w / 2 ^ k) 1) ∙ sym (get_word w k (omega arith))) in
+    ap (λ n. filter (bit_set w) (range_with_len 0 n)) (sym l) ∙ places_pass (bit_set w) (word_bits w) 0 reads

@@ -1,12 +1,13 @@
 // Which data blocks are held: maps of bits in words of 64, the lowest bit first.
+// kept: the board lends a map as plain words, so no type of ours can carry that they are fewer than 2^32
 #![tactic(auto)]
 
-ghost use Rattle.std.specs.Prelude.{◌≡◌, ◌+◌, ◌*◌, ◌^◌, ◌<◌, ◌≤◌, true, false, length, set, replicate, slice_index_or, slice_set};
+ghost use Rattle.std.specs.Prelude.{◌≡◌, ◌+◌, ◌*◌, ◌^◌, ◌<◌, ◌≤◌, true, false, length, set, replicate, slice_index_or, slice_set, IfSome};
 ghost use Rattle.std.specs.List.{AllByRecursion, slice_get};
 ghost use Rattle.blocks.specs.Bits.{bits_of, word_bits};
 ghost use Rattle.machine.specs.State.{count_set, free, marked, both};
 ghost use Rattle.tables.specs.Own.{unmarked};
-ghost use Rattle.bitmap.specs.Bitmap.{lowest_clear, set_places};
+ghost use Rattle.bitmap.specs.Bitmap.{lowest_clear, lowest_in, put_each, set_places};
 ghost use Rattle.bitmap.specs.Laws.{FreeFirst, LowestRises, CountRises};
 ghost use Rattle.bitmap.specs.Laws.{CountPadded, FreePadded, FreeBelow, MarkedPadded, UnmarkedPadded, BothPadded};
 ghost use Rattle.bitmap.specs.Laws.{WordsPadded, WordsPinned, AnswersExact, ChangesExact, EmptyExact};
@@ -19,12 +20,25 @@ pub fn is_set(map: &[u64], k: usize) -> bool
     map[k / 64] >> (k % 64) & 1 == 1
 }
 
+// Sets bit k, or clears it.
+fn put_bit(map: &mut [u64], k: usize, on: bool)
+    requires { k < 64 * length map.old }
+    ensures { bits_of map.new ≡ slice_set (bits_of map.old) k on }
+{
+    let bit = 1 << (k % 64);
+    if on {
+        map[k / 64] |= bit;
+    } else {
+        map[k / 64] &= !bit;
+    }
+}
+
 // Sets bit k.
 pub fn set_bit(map: &mut [u64], k: usize)
     requires { k < 64 * length map.old }
     ensures { bits_of map.new ≡ slice_set (bits_of map.old) k true }
 {
-    map[k / 64] |= 1 << (k % 64);
+    put_bit(map, k, true);
 }
 
 // Clears bit k.
@@ -32,7 +46,7 @@ pub fn clear_bit(map: &mut [u64], k: usize)
     requires { k < 64 * length map.old }
     ensures { bits_of map.new ≡ slice_set (bits_of map.old) k false }
 {
-    map[k / 64] &= !(1 << (k % 64));
+    put_bit(map, k, false);
 }
 
 // How many bits are set.
@@ -40,28 +54,17 @@ pub fn count(map: &[u64]) -> usize
     requires { length map.now < 2 ^ 32 }
     ensures { result ≡ count_set (bits_of map.now) }
 {
-    let mut n = 0;
-    for w in map {
-        n += w.count_ones() as usize;
-    }
-    n
+    map.iter().map(|word| word.count_ones() as usize).sum()
 }
 
-// The lowest clear bit, or the number of bits where none is clear. The first `from` words are known to be full.
-pub fn lowest_from(map: &[u64], from: usize) -> usize
+// The lowest clear bit. The first `from` words are known to be full.
+pub fn lowest_from(map: &[u64], from: usize) -> Option<usize>
     requires few { length map.now < 2 ^ 32 }
     requires full { 64 * from ≤ lowest_clear (bits_of map.now) }
-    ensures { result ≡ lowest_clear (bits_of map.now) }
+    ensures { result ≡ lowest_in (bits_of map.now) }
 {
-    let mut i = from;
-    while i < map.len() {
-        let w = map[i];
-        if w != u64::MAX {
-            return 64 * i + (!w).trailing_zeros() as usize;
-        }
-        i += 1;
-    }
-    64 * map.len()
+    let i = from + map[from..].iter().position(|word| *word != u64::MAX)?;
+    Some(64 * i + map[i].trailing_ones() as usize)
 }
 
 // Takes as many of the lowest clear bits as `out` is long: sets them, and writes down their numbers.
@@ -73,13 +76,21 @@ pub fn take_lowest(map: &mut [u64], out: &mut [u64])
         marked (free (length out.old) (bits_of map.old) 0) (bits_of map.old) }
 {
     let mut from = 0;
-    let mut i = 0;
-    while i < out.len() {
-        let k = lowest_from(map, from);
+    for slot in out.iter_mut() {
+        let k = lowest_from(map, from).unwrap();
         set_bit(map, k);
-        out[i] = k as u64;
+        *slot = k as u64;
         from = k / 64;
-        i += 1;
+    }
+}
+
+// Sets the bit of each number of a row, or clears it.
+fn put_all(map: &mut [u64], row: &[u64], on: bool)
+    requires { AllByRecursion (λ x. x < 64 * length map.old) row.now }
+    ensures { bits_of map.new ≡ put_each on row.now (bits_of map.old) }
+{
+    for k in row {
+        put_bit(map, *k as usize, on);
     }
 }
 
@@ -88,9 +99,7 @@ pub fn mark_all(map: &mut [u64], row: &[u64])
     requires { AllByRecursion (λ x. x < 64 * length map.old) row.now }
     ensures { bits_of map.new ≡ marked row.now (bits_of map.old) }
 {
-    for k in row {
-        set_bit(map, *k as usize);
-    }
+    put_all(map, row, true);
 }
 
 // Clears the bit of each number of a row.
@@ -98,9 +107,7 @@ pub fn unmark_all(map: &mut [u64], row: &[u64])
     requires { AllByRecursion (λ x. x < 64 * length map.old) row.now }
     ensures { bits_of map.new ≡ unmarked row.now (bits_of map.old) }
 {
-    for k in row {
-        clear_bit(map, *k as usize);
-    }
+    put_all(map, row, false);
 }
 
 // How many bits are set in both of two maps.
@@ -109,11 +116,10 @@ pub fn count_shared(a: &[u64], b: &[u64]) -> usize
     requires alike { length b.now ≡ length a.now }
     ensures { result ≡ length (both (bits_of a.now) (bits_of b.now) 0) }
 {
-    let mut shared = 0;
-    for i in 0..a.len() {
-        shared += (a[i] & b[i]).count_ones() as usize;
-    }
-    shared
+    a.iter()
+        .zip(b)
+        .map(|(x, y)| (x & y).count_ones() as usize)
+        .sum()
 }
 
 // The number of the k-th bit, counted from 0, that is set in both of two maps.
@@ -123,34 +129,22 @@ pub fn nth_shared(a: &[u64], b: &[u64], k: usize) -> Option<usize>
     ensures { result ≡ slice_get (both (bits_of a.now) (bits_of b.now) 0) k }
 {
     let mut left = k;
-    for i in 0..a.len() {
-        let w = a[i] & b[i];
-        let n = w.count_ones() as usize;
-        if left < n {
-            return Some(64 * i + nth_set(w, left));
+    for (i, (x, y)) in a.iter().zip(b).enumerate() {
+        let word = x & y;
+        match left.checked_sub(word.count_ones() as usize) {
+            Some(rest) => left = rest,
+            None => return nth_set(word, left).map(|place| 64 * i + place),
         }
-        left -= n;
     }
     None
 }
 
-// The place of a word's k-th set bit, counted from 0, or 64 where it has not so many.
-fn nth_set(word: u64, k: usize) -> usize
-    ensures place { result ≡ slice_index_or (set_places (word_bits word) 0) k 64 }
-    ensures small { result ≤ 64 }
+// The place of a word's k-th set bit, counted from 0, where it has so many.
+fn nth_set(word: u64, k: usize) -> Option<usize>
+    ensures place { result ≡ slice_get (set_places (word_bits word) 0) k }
+    ensures small { IfSome result (λ place. place < 64) }
 {
-    let mut w = word;
-    let mut left = k;
-    for p in 0..64 {
-        if w % 2 == 1 {
-            if left == 0 {
-                return p;
-            }
-            left -= 1;
-        }
-        w /= 2;
-    }
-    64
+    (0..64).filter(|place| word >> *place & 1 == 1).nth(k)
 }
 
 // One map over another.

@@ -8,7 +8,7 @@ use bitmap::{
 fn empty_map(rt: HostRuntime) {
     let map = [0u64; 2];
     assert_eq!(rt; count(&map), 0);
-    assert_eq!(rt; lowest_from(&map, 0), 0);
+    assert_eq!(rt; lowest_from(&map, 0), Some(0));
     assert!(rt; !is_set(&map, 0) && !is_set(&map, 127));
     assert_eq!(rt; nth_shared(&map, &map, 0), None);
 }
@@ -17,7 +17,7 @@ fn empty_map(rt: HostRuntime) {
 fn full_map(rt: HostRuntime) {
     let map = [u64::MAX; 2];
     assert_eq!(rt; count(&map), 128);
-    assert_eq!(rt; lowest_from(&map, 0), 128);
+    assert_eq!(rt; lowest_from(&map, 0), None);
     assert!(rt; is_set(&map, 0) && is_set(&map, 127));
     assert_eq!(rt; count_shared(&map, &map), 128);
     assert_eq!(rt; nth_shared(&map, &map, 127), Some(127));
@@ -55,21 +55,21 @@ fn last_of_many(rt: HostRuntime) {
     let mut map = [u64::MAX; 1024];
     map[1023] = u64::MAX >> 1;
     assert_eq!(rt; count(&map), 65535);
-    assert!(rt; lowest_from(&map, 0) == 65535);
-    assert_eq!(rt; lowest_from(&map, 1023), 65535);
+    assert_eq!(rt; lowest_from(&map, 0), Some(65535));
+    assert_eq!(rt; lowest_from(&map, 1023), Some(65535));
     let mut out = [0u64; 1];
     assert!(rt; count(&map) < 65536);
     take_lowest(&mut map, &mut out);
     assert_eq!(rt; out, [65535]);
     assert_eq!(rt; count(&map), 65536);
-    assert_eq!(rt; lowest_from(&map, 0), 65536);
+    assert_eq!(rt; lowest_from(&map, 0), None);
 }
 
 #[test]
 fn no_words(rt: HostRuntime) {
     let mut map = [0u64; 0];
     assert_eq!(rt; count(&map), 0);
-    assert_eq!(rt; lowest_from(&map, 0), 0);
+    assert_eq!(rt; lowest_from(&map, 0), None);
     assert_eq!(rt; count_shared(&map, &map), 0);
     assert_eq!(rt; nth_shared(&map, &map, 0), None);
     mark_all(&mut map, &[]);

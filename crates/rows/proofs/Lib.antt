@@ -1,3 +1,5 @@
--- Index: searches (Searches); words as bytes and bytes as words (Bytes)
+-- Index: searches (Searches); the rows of entries (EntryRows); words as bytes and bytes as words (Bytes); a name's words (NameWords)
 mod Searches
+mod EntryRows
 pub mod Bytes
+mod NameWords

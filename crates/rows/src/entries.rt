@@ -1,7 +1,7 @@
 // The table of entries, sixteen words each: an entry by its name, and an entry read.
-ghost use Rattle.std.specs.Prelude.{◌≡◌, ◌+◌, ◌*◌, ◌≤◌, length, take, drop, slice_index};
+ghost use Rattle.std.specs.Prelude.{◌≡◌, ◌+◌, ◌*◌, ◌≤◌, length, take, drop, slice_index, nat_lt, ◌&&◌};
 ghost use Rattle.std.specs.List.{flat_map};
-ghost use Rattle.blocks.specs.Words.{bytes_of};
+ghost use Rattle.blocks.specs.Words.{bytes_of, part};
 ghost use Rattle.model.specs.Tree.{same};
 ghost use Rattle.tables.specs.Lookup.{entry_id, name_row};
 ghost use Rattle.machine.specs.Tables.{entry_from};
@@ -9,6 +9,7 @@ ghost use Rattle.rows.specs.Entries.{entry_in};
 ghost use Rattle.rows.specs.Found.{found};
 
 // An entry by value: the id that a name is given to, and the name, the first `len` bytes of `name`.
+// kept: there is no heap to have a name of its own length in, and a table's word may give any length
 #[derive(Clone, Copy, Debug, PartialEq, Eq)]
 pub struct Entry {
     pub id: u64,
@@ -40,8 +41,8 @@ pub fn bytes_of(words: &[u64]) -> [u8; 64]
     ensures { take (8 * length words.now) result ≡ flat_map (bytes_of 8) words.now }
 {
     let mut bytes = [0; 64];
-    for k in 0..words.len() {
-        bytes[8 * k..8 * k + 8].copy_from_slice(&words[k].to_le_bytes());
+    for (k, word) in words.iter().enumerate() {
+        bytes[8 * k..8 * k + 8].copy_from_slice(&word.to_le_bytes());
     }
     bytes
 }
@@ -68,11 +69,11 @@ pub fn read_entry(entries: &[u64], row: usize) -> Entry
     entry_from(&entries[16 * row..])
 }
 
-// Are they the same words?
-fn same_words(a: &[u64], b: &[u64]) -> bool
-    ensures { result ≡ same a.now b.now }
+// Does a row have the key?
+fn has_key(row: &[u64], key: &[u64]) -> bool
+    ensures { result ≡ (nat_lt 9 (length row.now) && same key.now (part 1 9 row.now)) }
 {
-    a == b
+    row.get(1..10) == Some(key)
 }
 
 // Which of a directory's `count` entries, from row `first` on, is the first with a key.
@@ -80,11 +81,7 @@ pub fn find_name(entries: &[u64], first: usize, count: usize, key: &[u64]) -> Op
     requires { 16 * (first + count) ≤ length entries.now }
     ensures { result ≡ found count (name_row key.now count first entries.now) }
 {
-    for k in 0..count {
-        let at = 16 * (first + k) + 1;
-        if same_words(key, &entries[at..at + 9]) {
-            return Some(k);
-        }
-    }
-    None
+    entries[16 * first..16 * (first + count)]
+        .chunks_exact(16)
+        .position(|row| has_key(row, key))
 }

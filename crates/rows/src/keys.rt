@@ -3,28 +3,14 @@ ghost use Rattle.std.specs.Prelude.{◌≡◌, ◌≤◌, length, take, drop, sl
 ghost use Rattle.blocks.specs.Words.{le};
 ghost use Rattle.machine.specs.Tables.{name_key, entry_row};
 
-// A byte of a name, or 0 past its end.
-fn byte(name: &[u8], at: usize) -> u8
-    ensures { result ≡ slice_index name.now at }
+// Up to eight bytes as a word.
+fn word(bytes: &[u8]) -> u64
+    requires { length bytes.now ≤ 8 }
+    ensures { result ≡ le bytes.now }
 {
-    if at < name.len() { name[at] } else { 0 }
-}
-
-// Up to eight bytes of a name, from a place on.
-fn word(name: &[u8], at: usize) -> u64
-    requires { at ≤ 56 }
-    ensures { result ≡ le (take 8 (drop at name.now)) }
-{
-    u64::from_le_bytes([
-        byte(name, at),
-        byte(name, at + 1),
-        byte(name, at + 2),
-        byte(name, at + 3),
-        byte(name, at + 4),
-        byte(name, at + 5),
-        byte(name, at + 6),
-        byte(name, at + 7),
-    ])
+    let mut word = [0; 8];
+    word[..bytes.len()].copy_from_slice(bytes);
+    u64::from_le_bytes(word)
 }
 
 // The words by which a name is compared.
@@ -32,17 +18,12 @@ pub fn name_key(name: &[u8]) -> [u64; 9]
     requires { length name.now ≤ 64 }
     ensures { result ≡ name_key name.now }
 {
-    [
-        name.len() as u64,
-        word(name, 0),
-        word(name, 8),
-        word(name, 16),
-        word(name, 24),
-        word(name, 32),
-        word(name, 40),
-        word(name, 48),
-        word(name, 56),
-    ]
+    let mut key = [0; 9];
+    key[0] = name.len() as u64;
+    for (k, bytes) in name.chunks(8).enumerate() {
+        key[k + 1] = word(bytes);
+    }
+    key
 }
 
 // The row of an entry.

@@ -3,22 +3,6 @@ ghost use Rattle.std.specs.Prelude.{◌≡◌, ◌+◌, ◌≤◌, length, repli
 ghost use borrow.Rule.Slice.PartMut.{put_mid};
 ghost use Rattle.blocks.specs.Words.{part, opened, closed};
 
-// Writes words over those at a place.
-fn put_words(table: &mut [u64], at: usize, words: &[u64])
-    requires { at + length words.now ≤ length table.old }
-    ensures { table.new ≡ put_mid at (length words.now) table.old words.now }
-{
-    table[at..at + words.len()].copy_from_slice(words);
-}
-
-// Writes zeros over n words.
-fn clear_words(table: &mut [u64], at: usize, n: usize)
-    requires { at + n ≤ length table.old }
-    ensures { table.new ≡ put_mid at n table.old (replicate n 0) }
-{
-    table[at..at + n].fill(0);
-}
-
 // Makes room for n words at a place of a table of which the first `used` are in use: what is in use from there on moves up, and the room
 // has what came after the words in use.
 pub fn open_words(table: &mut [u64], used: usize, at: usize, n: usize)
@@ -36,7 +20,7 @@ pub fn insert_words(table: &mut [u64], used: usize, at: usize, words: &[u64])
     ensures { table.new ≡ opened used at words.now table.old }
 {
     open_words(table, used, at, words.len());
-    put_words(table, at, words);
+    table[at..at + words.len()].copy_from_slice(words);
 }
 
 // Takes n words out at a place; what is in use after them moves down, and zeros come in at the end.
@@ -46,5 +30,5 @@ pub fn remove_words(table: &mut [u64], used: usize, at: usize, n: usize)
     ensures { table.new ≡ closed used at n table.old }
 {
     table[at..used].rotate_left(n);
-    clear_words(table, used - n, n);
+    table[used - n..used].fill(0);
 }

@@ -1,37 +1,16 @@
-use Rattle.std.proofs.Common.{◌+◌, ◌/◌, sym, refl, ap, ◌∙◌, arith}
-use Rattle.blocks.specs.Bits.{word_bits}
-use Rattle.bitmap.proofs.Places.{nth_left_of, nth_here, nth_after_set, nth_after_clear, nth_none}
-use Rattle.bitmap.proofs.nth_set.Goals.{then-w-eq1+else-left-eq0, else-w-eq1}
+-- The places whose bit is set are those of the word.
+use Rattle.std.proofs.Common.{rules, ap, sym, refl, ◌∙◌}
+use Rattle.std.specs.List.{slice_get}
+use Rattle.std.proofs.lemmas.Iterator.{YieldsList-from_range}
+use Rattle.std.proofs.lemmas.Iterator.Adapters.{option_map_id}
+use Rattle.std.proofs.lemmas.Iterator.Consumers.{YieldsList-from_filter, nth_from_yields_List}
+use Rattle.bitmap.proofs.Places.{bit_set, word_places}
 use Rattle.bitmap.proofs.nth_set.Goals as goal
 
-pub loop-p-init : goal.loop-p-init
-unfolding word_bits
-loop-p-init c = refl
-
-pub returns-then-left-eq0 : goal.returns-then-left-eq0
-returns-then-left-eq0 c = record {
-  place =
-      sym (nth_here c.loop-p.w c.loop-p.p c.loop-p.left c.loop-p-test.true c.if-w-eq1.true
-      c.if-left-eq0.true)
-      ∙ c.loop-p.invariant;
-  small = omega arith;
-}
-
-pub loop-p-preserved : goal.loop-p-preserved
-loop-p-preserved c = elim c.if-w-eq1.branch [
-  | then-w-eq1+else-left-eq0 w ↦
-      ap (nth_left_of (c.loop-p.w / 2) (c.loop-p.p + 1)) w.left-is
-      ∙ (sym (nth_after_set c.loop-p.w c.loop-p.p c.loop-p.left c.loop-p-test.true w.if-w-eq1.true
-      (omega arith))
-      ∙ c.loop-p.invariant)
-  | else-w-eq1 w ↦
-      ap (nth_left_of (c.loop-p.w / 2) (c.loop-p.p + 1)) w.left-is
-      ∙ (sym (nth_after_clear c.loop-p.w c.loop-p.p c.loop-p.left c.loop-p-test.true (omega arith))
-      ∙ c.loop-p.invariant)
-]
-
-pub returns : goal.returns
-returns c = record {
-  place = sym (nth_none c.loop-p.w c.loop-p.p c.loop-p.left (omega arith)) ∙ c.loop-p.invariant;
-  small = omega arith;
-}
+pub returns-clause-place : goal.returns-clause-place
+returns-clause-place c =
+    sym (option_map_id c.nth.result)
+    ∙ (nth_from_yields_List c.nth.result _ c.args.k c.nth.ensures.ran
+    (YieldsList-from_filter _ (bit_set c.args.word) (YieldsList-from_range 0 64 64 c.filter.ensures.source refl)
+    c.filter.ensures.closure (λ x b q k. search rules))
+    ∙ ap (λ t. slice_get t c.args.k) (word_places c.args.word))

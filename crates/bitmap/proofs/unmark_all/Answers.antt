@@ -1,26 +1,7 @@
-use Rattle.std.proofs.Common.{◌+◌, ◌*◌, ◌<◌, length, drop, sym, ap, ◌∙◌, arith}
-use Rattle.std.proofs.ByRecursion.{All-get_or}
-use Rattle.std.proofs.lemmas.List.{at_drop_more, at_drop_all}
+use Rattle.std.proofs.Common.{◌∙◌}
 use Rattle.blocks.specs.Bits.{bits_of}
-use Rattle.tables.specs.Own.{unmarked}
+use Rattle.bitmap.proofs.Each.{each_unmarked}
 use Rattle.bitmap.proofs.unmark_all.Goals as goal
 
-pub clear_bit-requires : goal.clear_bit-requires
-clear_bit-requires c =
-    let h = All-get_or (λ x. x < 64 * length c.args.map.now) c.args.row.now c.loop-k.k-index 0
-    c.loop-k-test.true c.requires in
-    omega arith
-
-pub loop-k-preserved : goal.loop-k-preserved
-unfolding unmarked
-loop-k-preserved c =
-    ap (unmarked (drop (c.loop-k.k-index + 1) c.args.row.now)) c.clear_bit.ensures
-    ∙ (sym (at_drop_more (λ t. unmarked t (bits_of c.loop-k.map)) c.args.row.now c.loop-k.k-index 0
-    c.loop-k-test.true)
-    ∙ c.loop-k.invariant)
-
 pub returns : goal.returns
-unfolding unmarked
-returns c =
-    sym (at_drop_all (λ t. unmarked t (bits_of c.loop-k.map)) c.args.row.now c.loop-k.k-index c.loop-k-test.false)
-    ∙ c.loop-k.invariant
+returns c = c.put_all.ensures ∙ each_unmarked c.args.row.now (bits_of c.args.map.now)
