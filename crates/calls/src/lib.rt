@@ -7,6 +7,7 @@ ghost use Rattle.calls.specs.Meaning.{refusal_number, RefusalRead};
 use std::error::Error;
 use std::fmt;
 
+pub mod answer_kind;
 pub mod kind;
 
 // A call: directories and files go by their ids, names are bytes.
