@@ -126,7 +126,7 @@ fn by_kind(kind: Kind, fields: &[u8]) -> Result<Call<'_>, Fault>
 }
 
 // The call that bytes are, or why they are none.
-fn call(bytes: &[u8]) -> Result<Call<'_>, Fault>
+fn parse(bytes: &[u8]) -> Result<Call<'_>, Fault>
     ensures { call_or_garbled (length bytes.now) result ≡ read_call bytes.now }
 {
     let (kind, fields) = bytes.split_first().ok_or(Fault::CutOff)?;
@@ -137,7 +137,7 @@ fn call(bytes: &[u8]) -> Result<Call<'_>, Fault>
 pub fn read_call(bytes: &[u8]) -> Call<'_>
     ensures { call_of result ≡ read_call bytes.now }
 {
-    match call(bytes) {
+    match parse(bytes) {
         Ok(call) => call,
         Err(Fault::CutOff) => Call::Garbled(bytes.len() as u64),
         Err(Fault::UpTo(place)) => Call::Garbled(place as u64),
