@@ -1,5 +1,6 @@
 // Which answer it is, and the number that bytes have for it.
-ghost use Rattle.std.specs.Prelude.{◌≡◌};
+ghost use Rattle.std.specs.Prelude.{◌≡◌, ◌++◌, Some, codes};
+ghost use Rattle.std.specs.Fmt.{decimal};
 ghost use Rattle.calls.specs.AnswerKinds.{answer_kind_number, answer_kind_of, AnswerKindRead};
 
 use crate::Answer;
@@ -51,6 +52,8 @@ impl TryFrom<u8> for AnswerKind {
 }
 
 impl fmt::Display for UnknownAnswerKind {
+    ghost output = { λ unknown. Some (codes "no answer has the number " ++ decimal unknown.0) };
+
     fn fmt<W: fmt::Write>(&self, f: &mut fmt::Formatter<W>) -> fmt::Result {
         write!(f, "no answer has the number {}", self.0)
     }
