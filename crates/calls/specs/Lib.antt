@@ -1,2 +1,3 @@
+pub mod AnswerKinds
 pub mod Kinds
 pub mod Meaning

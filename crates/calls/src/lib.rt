@@ -1,12 +1,14 @@
 // Calls, answers, refusals and limits as the code has them. specs/Meaning.antt says what each stands for in the model.
 #![tactic(auto)]
 
-ghost use Rattle.std.specs.Prelude.{◌≡◌};
+ghost use Rattle.std.specs.Prelude.{◌≡◌, ◌++◌, Some, codes};
+ghost use Rattle.std.specs.Fmt.{decimal};
 ghost use Rattle.calls.specs.Meaning.{refusal_number, RefusalRead};
 
 use std::error::Error;
 use std::fmt;
 
+pub mod answer_kind;
 pub mod kind;
 
 // A call: directories and files go by their ids, names are bytes.
@@ -132,6 +134,8 @@ impl TryFrom<u8> for Refusal {
 }
 
 impl fmt::Display for UnknownRefusal {
+    ghost output = { λ unknown. Some (codes "no refusal has the number " ++ decimal unknown.0) };
+
     fn fmt<W: fmt::Write>(&self, f: &mut fmt::Formatter<W>) -> fmt::Result {
         write!(f, "no refusal has the number {}", self.0)
     }

@@ -1,6 +1,7 @@
 -- The digits of a length, as they are written: how many they are, what they stand for, that the last is no zero too many,
 -- and how a loop comes by them, from the lowest up or from the highest down.
-use Rattle.std.proofs.Common.{◌≡◌, ℕ, zero, suc, ◌+◌, ◌-◌, ◌*◌, ◌/◌, ◌%◌, ◌<◌, ◌≤◌, true, false, ◌&&◌, eqb, ltb, List, [], ◌∷◌, ◌++◌, length, get_or, drop, refl, ap, inl, inr, arith}
+use Rattle.std.proofs.Common.{◌≡◌, ℕ, zero, suc, ◌+◌, ◌-◌, ◌*◌, ◌/◌, ◌%◌, ◌^◌, ◌<◌, ◌≤◌, true, false, ◌&&◌, eqb, ltb, List, [], ◌∷◌, ◌++◌, length, get_or, drop, refl, ap, inl, inr, arith}
+use Rattle.std.proofs.Math.Nat.{pow-suc}
 use Rattle.std.proofs.lemmas.List.{at_drop_more}
 use Rattle.std.proofs.lemmas.Bool.{lt-ltb, le-ltb, ne_eqb, cases_lt, and_right}
 use Rattle.model.specs.Calls.{bytes}
@@ -83,7 +84,7 @@ digits_more (suc n) l =
     let m : ℕ = suc n / 128 in
     rw (le-ltb (suc n) 128 l) (ap (λ xs. (128 + suc n % 128) ∷ xs) (digits_same n m m (omega arith) (omega arith)))
 
--- there is a digit at least, and there are not too many to count
+-- there is a digit at least, and there are no more than k where the length is below 128 to the power k
 pub digits_some : (n : ℕ) → 1 ≤ length (digits n)
 digits_some n =
     elim (cases_lt n 128) [
@@ -91,20 +92,16 @@ digits_some n =
       | inr h ↦ rw (digits_more n h) (omega arith)
     ]
 
-digits_few : (f n : ℕ) → length (digits_by f n) ≤ f + 1
-digits_few zero n = omega arith
-digits_few (suc f) n =
-    let ih = digits_few f (n / 128) in
-    elim (cases_lt n 128) [
-      | inl h ↦ rw (lt-ltb n 128 h) (omega arith)
-      | inr h ↦ rw (le-ltb n 128 h) (omega arith)
-    ]
-
-pub digits_short : (n : ℕ) → length (digits n) ≤ n / 128 + 2
-digits_short n =
+pub digits_within : (k n : ℕ) → n < 128 ^ suc k → length (digits n) ≤ suc k
+digits_within zero n l = let s : n < 128 = l in rw (digits_small n s) (omega arith)
+digits_within (suc k) n l =
     elim (cases_lt n 128) [
       | inl h ↦ rw (digits_small n h) (omega arith)
-      | inr h ↦ let f = digits_few (n / 128) (n / 128) in rw (digits_more n h) (omega arith)
+      | inr h ↦
+          let p = pow-suc 128 (suc k) in
+          let s : n / 128 < 128 ^ suc k = omega arith in
+          let ih = digits_within k (n / 128) s in
+          rw (digits_more n h) (omega arith)
     ]
 
 -- FROM THE HIGHEST DOWN: what the digits from a place on stand for

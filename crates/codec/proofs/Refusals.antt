@@ -1,12 +1,13 @@
 -- Refusals and their numbers: each way there and back, and which numbers are refusals'. A new refusal adds a line each
 -- to `number_back`, `of_number` and `number_byte`.
 use Rattle.std.proofs.Common.{◌≡◌, ℕ, ◌<◌, true, false, cond, eqb, Some, None, Option, sym, refl, ap, ◌∙◌, subst, inl, inr, arith}
+use Rattle.std.specs.Option.{is_some}
 use Rattle.std.proofs.lemmas.Bool.{eq-eqb, ne_eqb, cases_eq, false≢true}
 use Rattle.calls.specs.declared.Refusal.{Refusal}
 use Rattle.calls.specs.declared.Refusal.TheVariants.{NoCall, OutOfRange, NoDirectory, NoFile, NoEntry, NameTaken}
 use Rattle.calls.specs.declared.Refusal.TheVariants.{InTheWay, NoRoom, TooManyOlder, NoPlace}
 use Rattle.calls.specs.Meaning.{refusal_number, refusal_from_number}
-use Rattle.codec.specs.AnswerBytes.{is_some, is_refusal}
+use Rattle.codec.specs.AnswerBytes.{is_refusal}
 use Rattle.codec.specs.Promises.{RefusalsNumbered}
 
 number_back : (r : Refusal) → refusal_from_number (refusal_number r) ≡ Some r

@@ -1,14 +1,11 @@
 -- ANSWERS AS BYTES: first the answer's number, then its fields; a name or a block runs to the end. Definitions only.
-use Rattle.std.specs.Prelude.{ℕ, Bool, true, false, cond, ◌&&◌, List, [], ◌∷◌, ◌++◌, length, drop, Some, None, Option, ◌==◌, nat_lt, slice_index}
+use Rattle.std.specs.Prelude.{ℕ, Bool, true, cond, ◌&&◌, List, [], ◌∷◌, ◌++◌, length, drop, Some, None, Option, ◌==◌, nat_lt, slice_index}
+use Rattle.std.specs.Option.{is_some}
 use Rattle.model.specs.Calls.{Answer, refused, done, number, entry, block, eight, bytes}
 use Rattle.calls.specs.Meaning.{refusal_from_number}
 use Rattle.codec.specs.Numbers.{le8, from_le8}
 
 -- WHICH NUMBERS ARE REFUSALS: those that some refusal has. Only this says so.
-abbrev pub is_some : {A : Type 0} → Option A → Bool
-is_some None = false
-is_some (Some x) = true
-
 unfoldable pub is_refusal : ℕ → Bool
 is_refusal r = is_some (refusal_from_number r)
 

@@ -8,11 +8,13 @@ ghost use Rattle.codec.specs.Promises.{RefusalsNumbered, AnswersCarried, OnlyAns
 ghost use Rattle.codec.specs.Promises.{AnswersToldApart, AnswersAreBytes};
 
 // Each call that bytes can carry is read back from its bytes.
+#[tactic(auto, using(crate::proofs::Carried::carried))]
 pub fn calls_carried()
     ensures { CallsCarried }
 {}
 
 // Where a call is read, the bytes are its bytes.
+#[tactic(auto, using(crate::proofs::Only::only_calls))]
 pub fn only_calls_read()
     ensures { OnlyCallsRead }
 {}
@@ -33,21 +35,25 @@ pub fn calls_told_apart()
 {}
 
 // A call's bytes are bytes.
+#[tactic(auto, using(crate::proofs::Readable::calls_bytes))]
 pub fn calls_are_bytes()
     ensures { CallsAreBytes }
 {}
 
 // What is read is readable, garbled or not.
+#[tactic(auto, using(crate::proofs::Readable::read_readable))]
 pub fn read_is_readable()
     ensures { ReadIsReadable }
 {}
 
 // Each refusal goes by its number.
+#[tactic(auto, using(crate::proofs::Refusals::numbered))]
 pub fn refusals_numbered()
     ensures { RefusalsNumbered }
 {}
 
 // Each answer that bytes can carry is read back from its bytes.
+#[tactic(auto, using(crate::proofs::AnswersBack::answers_back))]
 pub fn answers_carried()
     ensures { AnswersCarried }
 {}
@@ -58,11 +64,13 @@ pub fn only_answers_read()
 {}
 
 // Two different answers have different bytes.
+#[tactic(auto, using(crate::proofs::AnswersBack::answers_apart))]
 pub fn answers_told_apart()
     ensures { AnswersToldApart }
 {}
 
 // An answer's bytes are bytes.
+#[tactic(auto, using(crate::proofs::AnswersBack::answers_bytes))]
 pub fn answers_are_bytes()
     ensures { AnswersAreBytes }
 {}

@@ -1,119 +1,113 @@
 // Answers and their bytes, with the length of the shortest front that is an answer, and whether the answer has an end; and
 // bytes that are no answer.
+use crate::rows::Row;
 use calls::{Answer, Refusal};
 
-pub(crate) struct Row {
-    pub answer: Answer<'static>,
-    pub bytes: &'static [u8],
-    pub whole_from: usize,
-    pub ends: bool,
-}
-
-pub(crate) static ANSWERS: [Row; 18] = [
+pub(crate) static ANSWERS: [Row<Answer<'static>>; 18] = [
     Row {
-        answer: Answer::Refused(Refusal::NoCall, 18),
+        value: Answer::Refused(Refusal::NoCall, 18),
         bytes: b"\x00\x01\x12\x00\x00\x00\x00\x00\x00\x00",
         whole_from: 10,
         ends: true,
     },
     Row {
-        answer: Answer::Refused(Refusal::OutOfRange, 0),
+        value: Answer::Refused(Refusal::OutOfRange, 0),
         bytes: b"\x00\x02\x00\x00\x00\x00\x00\x00\x00\x00",
         whole_from: 10,
         ends: true,
     },
     Row {
-        answer: Answer::Refused(Refusal::NoDirectory, 0),
+        value: Answer::Refused(Refusal::NoDirectory, 0),
         bytes: b"\x00\x03\x00\x00\x00\x00\x00\x00\x00\x00",
         whole_from: 10,
         ends: true,
     },
     Row {
-        answer: Answer::Refused(Refusal::NoFile, 0),
+        value: Answer::Refused(Refusal::NoFile, 0),
         bytes: b"\x00\x04\x00\x00\x00\x00\x00\x00\x00\x00",
         whole_from: 10,
         ends: true,
     },
     Row {
-        answer: Answer::Refused(Refusal::NoEntry, 0),
+        value: Answer::Refused(Refusal::NoEntry, 0),
         bytes: b"\x00\x05\x00\x00\x00\x00\x00\x00\x00\x00",
         whole_from: 10,
         ends: true,
     },
     Row {
-        answer: Answer::Refused(Refusal::NameTaken, 0),
+        value: Answer::Refused(Refusal::NameTaken, 0),
         bytes: b"\x00\x06\x00\x00\x00\x00\x00\x00\x00\x00",
         whole_from: 10,
         ends: true,
     },
     Row {
-        answer: Answer::Refused(Refusal::InTheWay, 0),
+        value: Answer::Refused(Refusal::InTheWay, 0),
         bytes: b"\x00\x07\x00\x00\x00\x00\x00\x00\x00\x00",
         whole_from: 10,
         ends: true,
     },
     Row {
-        answer: Answer::Refused(Refusal::NoRoom, 0),
+        value: Answer::Refused(Refusal::NoRoom, 0),
         bytes: b"\x00\x08\x00\x00\x00\x00\x00\x00\x00\x00",
         whole_from: 10,
         ends: true,
     },
     Row {
-        answer: Answer::Refused(Refusal::TooManyOlder, 0),
+        value: Answer::Refused(Refusal::TooManyOlder, 0),
         bytes: b"\x00\x09\x00\x00\x00\x00\x00\x00\x00\x00",
         whole_from: 10,
         ends: true,
     },
     Row {
-        answer: Answer::Refused(Refusal::NoPlace, 0xfedcba9876543210),
+        value: Answer::Refused(Refusal::NoPlace, 0xfedcba9876543210),
         bytes: b"\x00\x0a\x10\x32\x54\x76\x98\xba\xdc\xfe",
         whole_from: 10,
         ends: true,
     },
     Row {
-        answer: Answer::Done,
+        value: Answer::Done,
         bytes: b"\x01",
         whole_from: 1,
         ends: true,
     },
     Row {
-        answer: Answer::Number(0),
+        value: Answer::Number(0),
         bytes: b"\x02\x00\x00\x00\x00\x00\x00\x00\x00",
         whole_from: 9,
         ends: true,
     },
     Row {
-        answer: Answer::Number(258),
+        value: Answer::Number(258),
         bytes: b"\x02\x02\x01\x00\x00\x00\x00\x00\x00",
         whole_from: 9,
         ends: true,
     },
     Row {
-        answer: Answer::Number(0xffffffffffffffff),
+        value: Answer::Number(0xffffffffffffffff),
         bytes: b"\x02\xff\xff\xff\xff\xff\xff\xff\xff",
         whole_from: 9,
         ends: true,
     },
     Row {
-        answer: Answer::Entry(b"ab", 7),
+        value: Answer::Entry(b"ab", 7),
         bytes: b"\x03\x07\x00\x00\x00\x00\x00\x00\x00\x61\x62",
         whole_from: 9,
         ends: false,
     },
     Row {
-        answer: Answer::Entry(b"", 256),
+        value: Answer::Entry(b"", 256),
         bytes: b"\x03\x00\x01\x00\x00\x00\x00\x00\x00",
         whole_from: 9,
         ends: false,
     },
     Row {
-        answer: Answer::Block(b"\xde\xad\xbe\xef"),
+        value: Answer::Block(b"\xde\xad\xbe\xef"),
         bytes: b"\x04\xde\xad\xbe\xef",
         whole_from: 1,
         ends: false,
     },
     Row {
-        answer: Answer::Block(b""),
+        value: Answer::Block(b""),
         bytes: b"\x04",
         whole_from: 1,
         ends: false,

@@ -1,113 +1,107 @@
 // Calls and their bytes. Of each: the length of the shortest front that is a call, and whether the call has an end, so that
 // no byte may follow it.
+use crate::rows::Row;
 use calls::Call;
 
-pub(crate) struct Row {
-    pub call: Call<'static>,
-    pub bytes: &'static [u8],
-    pub whole_from: usize,
-    pub ends: bool,
-}
-
-pub(crate) static CALLS: [Row; 17] = [
+pub(crate) static CALLS: [Row<Call<'static>>; 17] = [
     Row {
-        call: Call::Find(7, b"ab"),
+        value: Call::Find(7, b"ab"),
         bytes: b"\x00\x07\x00\x00\x00\x00\x00\x00\x00\x61\x62",
         whole_from: 9,
         ends: false,
     },
     Row {
-        call: Call::Find(0, b""),
+        value: Call::Find(0, b""),
         bytes: b"\x00\x00\x00\x00\x00\x00\x00\x00\x00",
         whole_from: 9,
         ends: false,
     },
     Row {
-        call: Call::MakeFile(0x0102030405060708, b"a"),
+        value: Call::MakeFile(0x0102030405060708, b"a"),
         bytes: b"\x01\x08\x07\x06\x05\x04\x03\x02\x01\x61",
         whole_from: 9,
         ends: false,
     },
     Row {
-        call: Call::MakeDir(255, b"\xc3\xa9"),
+        value: Call::MakeDir(255, b"\xc3\xa9"),
         bytes: b"\x02\xff\x00\x00\x00\x00\x00\x00\x00\xc3\xa9",
         whole_from: 9,
         ends: false,
     },
     Row {
-        call: Call::Remove(256, b"x"),
+        value: Call::Remove(256, b"x"),
         bytes: b"\x03\x00\x01\x00\x00\x00\x00\x00\x00\x78",
         whole_from: 9,
         ends: false,
     },
     Row {
-        call: Call::Rename(1, b"a", 2, b"bc"),
+        value: Call::Rename(1, b"a", 2, b"bc"),
         bytes: b"\x04\x01\x00\x00\x00\x00\x00\x00\x00\x02\x00\x00\x00\x00\x00\x00\x00\x01\x61\x62\x63",
         whole_from: 19,
         ends: false,
     },
     Row {
-        call: Call::Rename(0, b"", 256, b""),
+        value: Call::Rename(0, b"", 256, b""),
         bytes: b"\x04\x00\x00\x00\x00\x00\x00\x00\x00\x00\x01\x00\x00\x00\x00\x00\x00\x00",
         whole_from: 18,
         ends: false,
     },
     Row {
-        call: Call::List(9, 3),
+        value: Call::List(9, 3),
         bytes: b"\x05\x09\x00\x00\x00\x00\x00\x00\x00\x03\x00\x00\x00\x00\x00\x00\x00",
         whole_from: 17,
         ends: true,
     },
     Row {
-        call: Call::Size(10),
+        value: Call::Size(10),
         bytes: b"\x06\x0a\x00\x00\x00\x00\x00\x00\x00",
         whole_from: 9,
         ends: true,
     },
     Row {
-        call: Call::Read(11, 65535),
+        value: Call::Read(11, 65535),
         bytes: b"\x07\x0b\x00\x00\x00\x00\x00\x00\x00\xff\xff\x00\x00\x00\x00\x00\x00",
         whole_from: 17,
         ends: true,
     },
     Row {
-        call: Call::Write(12, 1, b"\xde\xad\xbe\xef"),
+        value: Call::Write(12, 1, b"\xde\xad\xbe\xef"),
         bytes: b"\x08\x0c\x00\x00\x00\x00\x00\x00\x00\x01\x00\x00\x00\x00\x00\x00\x00\xde\xad\xbe\xef",
         whole_from: 17,
         ends: false,
     },
     Row {
-        call: Call::Write(0, 0, b""),
+        value: Call::Write(0, 0, b""),
         bytes: b"\x08\x00\x00\x00\x00\x00\x00\x00\x00\x00\x00\x00\x00\x00\x00\x00\x00",
         whole_from: 17,
         ends: false,
     },
     Row {
-        call: Call::Resize(13, 65536),
+        value: Call::Resize(13, 65536),
         bytes: b"\x09\x0d\x00\x00\x00\x00\x00\x00\x00\x00\x00\x01\x00\x00\x00\x00\x00",
         whole_from: 17,
         ends: true,
     },
     Row {
-        call: Call::SyncFile(14),
+        value: Call::SyncFile(14),
         bytes: b"\x0a\x0e\x00\x00\x00\x00\x00\x00\x00",
         whole_from: 9,
         ends: true,
     },
     Row {
-        call: Call::SyncFile(0xffffffffffffffff),
+        value: Call::SyncFile(0xffffffffffffffff),
         bytes: b"\x0a\xff\xff\xff\xff\xff\xff\xff\xff",
         whole_from: 9,
         ends: true,
     },
     Row {
-        call: Call::SyncFile(0x8000000000000000),
+        value: Call::SyncFile(0x8000000000000000),
         bytes: b"\x0a\x00\x00\x00\x00\x00\x00\x00\x80",
         whole_from: 9,
         ends: true,
     },
     Row {
-        call: Call::SyncTree,
+        value: Call::SyncTree,
         bytes: b"\x0b",
         whole_from: 1,
         ends: true,

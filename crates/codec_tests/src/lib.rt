@@ -15,4 +15,4 @@ mod garbled_table;
 #[cfg(test)]
 mod garbled_tests;
 #[cfg(test)]
-mod same;
+mod rows;

@@ -1,32 +1,24 @@
 // A length in base 128, as it stands before the first of two names.
-ghost use Rattle.std.specs.Prelude.{◌≡◌};
+ghost use Rattle.std.specs.Prelude.{◌≡◌, ◌<◌, ◌≤◌, length, MatchOption};
 ghost use Rattle.codec.specs.Lengths.{high, value, up_to};
 
-// How many digits stand before the last one.
-pub(crate) fn high_digits(bytes: &[u8]) -> usize
-    ensures { result ≡ high bytes.now }
+// Where the last digit stands, if there is one: all before it have 128 added.
+pub(crate) fn last_digit(bytes: &[u8]) -> Option<usize>
+    ensures { MatchOption result (length bytes.now ≤ high bytes.now) (λ i. (i ≡ high bytes.now) × (i < length bytes.now)) }
 {
-    for (i, b) in bytes.iter().enumerate() {
-        if *b < 128 {
-            return i;
-        }
-    }
-    bytes.len()
+    bytes.iter().position(|digit| *digit < 128)
 }
 
-// What digits stand for, where it is no more than `most`. From the last digit down, so that nothing overflows.
+// What digits stand for, where it is no more than `most`. From the last digit down: a value that does not fit is more, however
+// few digits are left.
 pub(crate) fn value_of(digits: &[u8], most: usize) -> Option<usize>
     ensures { result ≡ up_to most (value digits.now) }
 {
-    let mut v: usize = 0;
-    for i in (0..digits.len()).rev() {
-        if most / 128 < v {
-            return None;
-        }
-        v = v * 128 + (digits[i] % 128) as usize;
+    let mut value: usize = 0;
+    for digit in digits.iter().rev() {
+        value = value
+            .checked_mul(128)?
+            .checked_add(usize::from(digit % 128))?;
     }
-    if most < v {
-        return None;
-    }
-    Some(v)
+    (value <= most).then_some(value)
 }

@@ -1,36 +1,19 @@
-// Parts of bytes: a number, some bytes, and all bytes from a place on.
-ghost use Rattle.std.specs.Prelude.{◌≡◌, ◌+◌, ◌≤◌, length, take, drop};
+// Numbers in bytes.
+ghost use Rattle.std.specs.Prelude.{◌≡◌, ◌≢◌, ◌<◌, ◌≤◌, length, drop, MatchOption};
 ghost use Rattle.codec.specs.Numbers.{from_le8};
 
-// The number whose eight bytes begin at `at`.
-pub(crate) fn number_at(bytes: &[u8], at: usize) -> u64
-    requires { at + 8 ≤ length bytes.now }
-    ensures { result ≡ from_le8 (drop at bytes.now) }
+// The number that bytes begin with, and what follows its eight bytes.
+pub(crate) fn split_number(bytes: &[u8]) -> Option<(u64, &[u8])>
+    ensures { MatchOption result (length bytes.now < 8)
+        (λ parts. (8 ≤ length bytes.now) × (parts.0 ≡ from_le8 bytes.now) × (parts.1.now ≡ drop 8 bytes.now)) }
 {
-    u64::from_le_bytes([
-        bytes[at],
-        bytes[at + 1],
-        bytes[at + 2],
-        bytes[at + 3],
-        bytes[at + 4],
-        bytes[at + 5],
-        bytes[at + 6],
-        bytes[at + 7],
-    ])
+    let (number, rest) = bytes.split_first_chunk::<8>()?;
+    Some((u64::from_le_bytes(*number), rest))
 }
 
-// All bytes from `at` on.
-pub(crate) fn rest(bytes: &[u8], at: usize) -> &[u8]
-    requires { at ≤ length bytes.now }
-    ensures { result.now ≡ drop at bytes.now }
+// The number that just eight bytes are.
+pub(crate) fn number_alone(bytes: &[u8]) -> Option<u64>
+    ensures { MatchOption result (length bytes.now ≢ 8) (λ number. (length bytes.now ≡ 8) × (number ≡ from_le8 bytes.now)) }
 {
-    &bytes[at..]
-}
-
-// The `n` bytes from `at` on.
-pub(crate) fn part(bytes: &[u8], at: usize, n: usize) -> &[u8]
-    requires { at + n ≤ length bytes.now }
-    ensures { result.now ≡ take n (drop at bytes.now) }
-{
-    &bytes[at..at + n]
+    <[u8; 8]>::try_from(bytes).ok().map(u64::from_le_bytes)
 }

@@ -1,4 +1,4 @@
 -- Puts: writing one part after another
--- PutRename: a rename's bytes, part by part
+-- Wrote: calls of two numbers and more, by their parts
 mod Puts
-mod PutRename
+mod Wrote

@@ -1,15 +1,12 @@
 -- WHAT WRITING DOES to the bytes that are written over, and what it gives back. Definitions only.
-use Rattle.std.specs.Prelude.{ℕ, ◌+◌, cond, List, ◌++◌, length, take, drop, Some, None, Option, nat_lt}
+use Rattle.std.specs.Prelude.{ℕ, cond, List, ◌++◌, length, drop, Some, None, Option, nat_lt}
 use Rattle.model.specs.Calls.{Call, find, make_file, make_dir, remove, rename, list, size, read, write}
 use Rattle.model.specs.Calls.{resize, sync_file, sync_tree, garbled}
 use Rattle.codec.specs.CallBytes.{call_bytes}
 
--- bytes written over the front of others, and from a place on
+-- bytes written over the front of others
 abbrev pub onto : List ℕ → List ℕ → List ℕ
 onto bs out = bs ++ drop (length bs) out
-
-abbrev pub put_at : ℕ → List ℕ → List ℕ → List ℕ
-put_at at bs out = take at out ++ (bs ++ drop (at + length bs) out)
 
 -- how many bytes were written, and what is there then: where there is no room, none and what was
 abbrev pub put : List ℕ → List ℕ → Option ℕ × List ℕ

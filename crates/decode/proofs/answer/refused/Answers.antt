@@ -1,28 +1,40 @@
 -- Ten bytes are a refusal just where some refusal has the number: read by it, written with it.
-use Rattle.std.proofs.Common.{◌≡◌, ℕ, List, length, get_or, drop, Some, None, Option, sym, arith}
-use Rattle.std.proofs.lemmas.Bool.{eq-eqb}
+use Rattle.std.proofs.Common.{◌≡◌, ℕ, List, ◌∷◌, length, Some, None, Option, Ok, Err, Result, sym, ap, ◌∙◌, rules}
+use Rattle.std.specs.Result.{result_ok}
 use Rattle.model.specs.Calls.{Answer, refused}
 use Rattle.calls.specs.declared.Refusal.{Refusal}
-use Rattle.calls.specs.Meaning.{refusal_number, refusal_from_number}
+use Rattle.calls.specs.declared.UnknownRefusal.{UnknownRefusal}
+use Rattle.calls.specs.Meaning.{refusal_number, refusal_from_number, RefusalRead}
 use Rattle.codec.specs.Numbers.{from_le8}
 use Rattle.codec.specs.AnswerBytes.{read_refused}
 use Rattle.codec.proofs.Refusals.{some_refusal, no_refusal}
+use Rattle.decode.specs.Read.{any_answer}
 use Rattle.decode.proofs.answer.refused.Goals as goal
 
--- ten bytes, and no refusal has the number
-none : (b : List ℕ) → length b ≡ 10 → None ≡ refusal_from_number (get_or b 1 0) → ◌≡◌ {A = Option Answer} None (read_refused b)
-none b l e = rw (eq-eqb (length b) 10 l, no_refusal (get_or b 1 0) (sym e))
+-- what the number was read as
+known : (n : ℕ) (r : Result Refusal UnknownRefusal) (x : Option Refusal) → RefusalRead n r → x ≡ result_ok r → refusal_from_number n ≡ x
+known n (Ok refusal) x h e = h ∙ sym e
+known n (Err e) x h q = h.1 ∙ sym q
 
--- ten bytes, and a refusal has it
+none : (b place : List ℕ) (n : ℕ) → b ≡ n ∷ place → refusal_from_number n ≡ None → ◌≡◌ {A = Option Answer} None (read_refused (0 ∷ b))
+none b place n s e = rw (s, no_refusal n e) (search rules)
+
 some :
-    (b : List ℕ) (r : Refusal) (p : ℕ) → length b ≡ 10 → Some r ≡ refusal_from_number (get_or b 1 0) → p ≡ from_le8 (drop 2 b) →
-    Some (refused (refusal_number r) p) ≡ read_refused b
-some b r p l e q =
-    let w = some_refusal (get_or b 1 0) r (sym e) in
-    rw (eq-eqb (length b) 10 l, w.0, w.1, q)
+    (b place : List ℕ) (n p : ℕ) (r : Refusal) → b ≡ n ∷ place → refusal_from_number n ≡ Some r → length place ≡ 8 → p ≡ from_le8 place →
+    Some (refused (refusal_number r) p) ≡ read_refused (0 ∷ b)
+some b place n p r s e l q = let w = some_refusal n r e in rw (s, l, w.0, w.1, q)
 
-pub returns-in_default : goal.returns-in_default
-returns-in_default c = none c.args.bytes.now (omega arith) c.in_default.ensures
+pub returns-in_err-refusal : goal.returns-in_err-refusal
+returns-in_err-refusal c =
+    let n = c.in_ok-number.number.now in
+    let h = known n c.try_from.result None c.try_from.ensures (sym c.in_err-refusal.was ∙ c.ok.ensures.value) in
+    ap any_answer c.from_residual-in_err-refusal.ensures
+    ∙ none c.args.fields.now c.in_ok-number.place.now n c.in_ok-number.ensures.cases.0 h
 
 pub returns : goal.returns
-returns c = some c.args.bytes.now c.in-Some.refusal _ (omega arith) c.in-Some.ensures c.number_at.ensures
+returns c =
+    let n = c.in_ok-number.number.now in
+    let r = c.in_ok-refusal.refusal in
+    let h = known n c.try_from.result (Some r) c.try_from.ensures (sym c.in_ok-refusal.was ∙ c.ok.ensures.value) in
+    let e = c.in_ok-number_alone.ensures in
+    some c.args.fields.now c.in_ok-number.place.now n _ r c.in_ok-number.ensures.cases.0 h e.0 e.1
