@@ -1,4 +1,3 @@
--- Appends: pieces put to the end of a list, one after another
 -- Outcomes: what reading tells
 -- Numerals: the steps of reading a number
 -- Letters: the steps of reading a word
@@ -6,7 +5,6 @@
 -- Figures: numbers come back
 -- Spelled: words come back
 -- Printable: words are printable ASCII
-pub mod Appends
 pub mod Outcomes
 mod Numerals
 mod Letters

@@ -2,7 +2,7 @@
 // specs/Words.antt, Numbers.antt and Printed.antt say what they are.
 #![tactic(auto)]
 
-ghost use Rattle.std.specs.Prelude.{◌≡◌, ◌≤◌, length, drop};
+ghost use Rattle.std.specs.Prelude.{◌≡◌, ◌≤◌, length, drop, IfOk};
 ghost use Rattle.words.specs.Law.{WordsComeBack, NumbersComeBack, WordsArePrintable};
 ghost use Rattle.words.specs.Numbers.{digit, more, read_number};
 ghost use Rattle.words.specs.Outcome.{Told};
@@ -77,7 +77,8 @@ fn one_more(n: u64, b: u8) -> Option<u64>
 
 // The number at the front of the text, and what is left.
 pub fn number(text: &[u8]) -> Result<(u64, &[u8]), Unread>
-    ensures { Told (λ p. (p.0, p.1.now)) result (read_number text.now) }
+    ensures told { Told (λ p. (p.0, p.1.now)) result (read_number text.now) }
+    ensures within { IfOk result (λ p. length p.1.now ≤ length text.now) }
 {
     if !text.first().is_some_and(|b| is_digit(*b)) {
         return Err(Unread::Left(text.len()));
