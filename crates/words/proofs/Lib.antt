@@ -1,11 +1,9 @@
--- Outcomes: what reading tells
 -- Numerals: the steps of reading a number
 -- Letters: the steps of reading a word
 -- Rows: the steps of printing a word
 -- Figures: numbers come back
 -- Spelled: words come back
 -- Printable: words are printable ASCII
-pub mod Outcomes
 mod Numerals
 mod Letters
 mod Rows
