@@ -1,5 +1,5 @@
 use Rattle.player.proofs.Standing.{as_before}
 use Rattle.player.proofs.Player.play.Goals as goal
 
-pub returns-in-Err-NoMemory : goal.returns-in-Err-NoMemory
-returns-in-Err-NoMemory c = record { text = tt; stands = as_before c.args.self.now _ }
+pub returns-in_err-said-clause-stands : goal.returns-in_err-said-clause-stands
+returns-in_err-said-clause-stands c = as_before c.from_residual.result _ c.from_residual.ensures.1 c.args.self.now _
