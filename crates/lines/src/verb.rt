@@ -77,6 +77,7 @@ fn common(a: &[u8], b: &[u8]) -> usize
 }
 
 // The first of some verbs that the line begins with, and what is left.
+#[tactic(auto, using(crate::proofs::Choosing::found, crate::proofs::Choosing::missed))]
 fn among<'a>(verbs: &[Verb], line: &'a [u8]) -> Result<(Verb, &'a [u8]), Unread>
     ensures { Told (λ p. (p.0, p.1.now)) result (verb_among 0 verbs.now line.now) }
 {

@@ -173,6 +173,7 @@ impl Player {
     }
 
     // Plays one line: the text to print.
+    #[tactic(auto, using(crate::proofs::Standing::as_before))]
     pub fn play(&mut self, heap: Global, line: &[u8]) -> Result<String, Trouble>
         ensures text { Says result (played self.old.limits self.old.waiting line.now) }
         ensures stands { StandsFor (is_ok result) self.old self.new (read_line line.now) }
@@ -190,6 +191,7 @@ fn line_feed(text: &[u8]) -> Option<usize>
 }
 
 // The first line of a text, and what comes after its line feed.
+#[tactic(auto, using(crate::proofs::Lines::found, crate::proofs::Lines::missing))]
 pub fn split_line(text: &[u8]) -> (&[u8], &[u8])
     ensures line { result.0.now ≡ first_line text.now }
     ensures after { result.1.now ≡ after_line text.now }
@@ -202,6 +204,7 @@ pub fn split_line(text: &[u8]) -> (&[u8], &[u8])
 }
 
 // A stage that can do no call answers as the model says.
+#[tactic(auto, using(crate::proofs::Stage::as_the_model))]
 pub fn answers_as_the_model()
     ensures { AsTheModel }
 {}

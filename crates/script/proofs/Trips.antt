@@ -25,11 +25,11 @@ use Rattle.script.specs.Lines.{read_line}
 number_back : (n : ℕ) (rest : List ℕ) → eight n ≡ true → digit (get_or rest 0 0) ≡ false →
     number_field (number_text n ++ rest) ≡ Ok (n, rest)
 unfolding NumbersComeBack
-number_back n rest e d = figures.come_back n rest e d
+number_back n rest e d = figures.numbers_come_back n rest e d
 
 word_back : (bs rest : List ℕ) → bytes bs ≡ true → ends rest ≡ true → word_field (word_text bs ++ rest) ≡ Ok (bs, rest)
 unfolding WordsComeBack
-word_back bs rest e d = spelled.come_back bs rest e d
+word_back bs rest e d = spelled.words_come_back bs rest e d
 
 number_last : (n : ℕ) → eight n ≡ true → number_field (number_text n) ≡ Ok (n, [])
 number_last n e = ap number_field (sym (append-nil (number_text n))) ∙ number_back n [] e refl

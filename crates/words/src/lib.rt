@@ -117,6 +117,7 @@ pub fn word(heap: Global, text: &[u8]) -> Result<(Vec<u8>, &[u8]), Unread>
 }
 
 // What is printed for bytes and for numbers is read back.
+#[tactic(auto, using(crate::proofs::Spelled::words_come_back, crate::proofs::Figures::numbers_come_back, crate::proofs::Printable::all_printable))]
 pub fn words_come_back()
     ensures words { WordsComeBack }
     ensures numbers { NumbersComeBack }

@@ -31,6 +31,7 @@ fn leading(bytes: &[u8], byte: u8) -> usize
 }
 
 // The row at the front, and the bytes after it.
+#[tactic(auto, using(crate::proofs::Rows::row_first))]
 fn first_row(bytes: &[u8]) -> Option<(Row, &[u8])>
     ensures variant { IsSome result ↔ (0 < length bytes.now) }
     ensures text { IfSome result (λ p. rows bytes.now ≡ print_row p.0.byte p.0.times ++ rows p.1.now) }
@@ -44,6 +45,7 @@ fn first_row(bytes: &[u8]) -> Option<(Row, &[u8])>
 impl fmt::Display for Letter {
     ghost output = { λ letter. Some (print_byte letter.0) };
 
+    #[tactic(auto, using(std::proofs::lemmas::Fmt::hex_byte))]
     fn fmt<W: fmt::Write>(&self, f: &mut fmt::Formatter<W>) -> fmt::Result {
         if is_plain(self.0) {
             write!(f, "{}", char::from(self.0))

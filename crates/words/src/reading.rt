@@ -37,7 +37,7 @@ pub enum Reading {
 pub(crate) fn is_plain(b: u8) -> bool
     ensures { result ≡ plain b }
 {
-    b'!' <= b && b <= b'~' && b != b'\\'
+    b.is_ascii_graphic() && b != b'\\'
 }
 
 fn hex_digit(b: u8) -> Option<u8>

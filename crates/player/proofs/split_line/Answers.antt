@@ -1,14 +1,9 @@
-use Rattle.std.proofs.Common.{take, drop, length, ◌+◌, sym, ap, ◌∙◌, arith, length-drop}
+use Rattle.std.proofs.Common.{drop, length, ◌+◌, sym, ap, ◌∙◌, arith, length-drop}
 use Rattle.std.proofs.lemmas.List.{take_all}
-use Rattle.std.proofs.lemmas.Bool.{cond-true, cond-false, eq-eqb, ne_eqb}
+use Rattle.std.proofs.lemmas.Bool.{cond-false, ne_eqb}
 use Rattle.player.specs.Split.{line_length}
 use Rattle.player.proofs.Lines.{found, missing}
 use Rattle.player.proofs.split_line.Goals as goal
-
-pub returns-in-Some-clause-line : goal.returns-in-Some-clause-line
-returns-in-Some-clause-line c =
-    let f = found c.args.text.now c.in-Some.n (sym c.in-Some.ensures) in
-    ap (λ k. take k c.args.text.now) (sym f.0)
 
 pub returns-in-Some-clause-after : goal.returns-in-Some-clause-after
 returns-in-Some-clause-after c =
@@ -20,6 +15,3 @@ returns-in-Some-clause-after c =
 pub returns-in-None-clause-line : goal.returns-in-None-clause-line
 returns-in-None-clause-line c =
     sym (take_all _ c.args.text.now (omega (arith, missing c.args.text.now (sym c.in-None.ensures))))
-
-pub returns-in-None-clause-after : goal.returns-in-None-clause-after
-returns-in-None-clause-after c = sym (cond-true _ _ _ (eq-eqb _ _ (missing c.args.text.now (sym c.in-None.ensures))))
