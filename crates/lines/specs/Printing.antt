@@ -5,13 +5,10 @@ use Rattle.model.specs.Calls.{Call, find, make_file, make_dir, remove, rename, l
 use Rattle.model.specs.Calls.{garbled}
 use Rattle.model.specs.Calls.{Answer, refused, done, number, entry, block}
 use Rattle.words.specs.Printed.{print_number, print_word}
-use Rattle.lines.specs.declared.verb.Verb.TheVariants.{Named as NamedVerb, Rename, Paired, Single, Write, SyncTree}
-use Rattle.lines.specs.declared.verb.Named.{Named}
-use Rattle.lines.specs.declared.verb.Named.TheVariants.{Find, MakeFile, MakeDir, Remove}
-use Rattle.lines.specs.declared.verb.Pair.{Pair}
-use Rattle.lines.specs.declared.verb.Pair.TheVariants.{List as ListEntry, Read, Resize}
-use Rattle.lines.specs.declared.verb.One.{One}
-use Rattle.lines.specs.declared.verb.One.TheVariants.{Size, SyncFile}
+use Rattle.lines.specs.declared.verb.Verb.TheVariants.{Call as CallVerb}
+use Rattle.calls.specs.declared.kind.Kind.{Kind}
+use Rattle.calls.specs.declared.kind.Kind.TheVariants.{Find, MakeFile, MakeDir, Remove, Rename, List as ListEntry, Size, Read, Write}
+use Rattle.calls.specs.declared.kind.Kind.TheVariants.{Resize, SyncFile, SyncTree}
 use Rattle.lines.specs.Verbs.{verb_text}
 
 -- a field: a space before it
@@ -21,20 +18,20 @@ number_text n = 32 ∷ print_number n
 abbrev pub word_text : List ℕ → List ℕ
 word_text bs = 32 ∷ print_word bs
 
-abbrev pub print_named : Named → ℕ → List ℕ → List ℕ
-print_named v d n = verb_text (NamedVerb v) ++ (number_text d ++ word_text n)
+abbrev pub print_named : Kind → ℕ → List ℕ → List ℕ
+print_named k d n = verb_text (CallVerb k) ++ (number_text d ++ word_text n)
 
-abbrev pub print_pair : Pair → ℕ → ℕ → List ℕ
-print_pair v m n = verb_text (Paired v) ++ (number_text m ++ number_text n)
+abbrev pub print_pair : Kind → ℕ → ℕ → List ℕ
+print_pair k m n = verb_text (CallVerb k) ++ (number_text m ++ number_text n)
 
-abbrev pub print_one : One → ℕ → List ℕ
-print_one v i = verb_text (Single v) ++ number_text i
+abbrev pub print_one : Kind → ℕ → List ℕ
+print_one k i = verb_text (CallVerb k) ++ number_text i
 
 abbrev pub print_rename : ℕ → List ℕ → ℕ → List ℕ → List ℕ
-print_rename d n e m = verb_text Rename ++ (number_text d ++ (word_text n ++ (number_text e ++ word_text m)))
+print_rename d n e m = verb_text (CallVerb Rename) ++ (number_text d ++ (word_text n ++ (number_text e ++ word_text m)))
 
 abbrev pub print_write : ℕ → ℕ → List ℕ → List ℕ
-print_write i o b = verb_text Write ++ (number_text i ++ (number_text o ++ word_text b))
+print_write i o b = verb_text (CallVerb Write) ++ (number_text i ++ (number_text o ++ word_text b))
 
 abbrev pub print_call : Call → List ℕ
 print_call (find d n) = print_named Find d n
@@ -48,7 +45,7 @@ print_call (read i o) = print_pair Read i o
 print_call (write i o b) = print_write i o b
 print_call (resize i n) = print_pair Resize i n
 print_call (sync_file i) = print_one SyncFile i
-print_call sync_tree = verb_text SyncTree
+print_call sync_tree = verb_text (CallVerb SyncTree)
 print_call (garbled n) = []
 
 abbrev pub print_answer : Answer → List ℕ

@@ -2,32 +2,31 @@
 -- line begins with none, it ceases to be a line at the first byte with which no verb goes on. Definitions only.
 use Rattle.std.specs.Prelude.{ℕ, suc, ◌-◌, max, cond, List, [], ◌∷◌, length, drop, Ok, Err, codes, Result, ◌==◌}
 use Rattle.lines.specs.declared.verb.Verb.{Verb}
-use Rattle.lines.specs.declared.verb.Verb.TheVariants.{Named as NamedVerb, Rename, Paired, Single, Write, SyncTree, Limits, Bytes, Power}
-use Rattle.lines.specs.declared.verb.Named.TheVariants.{Find, MakeFile, MakeDir, Remove}
-use Rattle.lines.specs.declared.verb.Pair.TheVariants.{List as ListEntry, Read, Resize}
-use Rattle.lines.specs.declared.verb.One.TheVariants.{Size, SyncFile}
+use Rattle.lines.specs.declared.verb.Verb.TheVariants.{Call as CallVerb, Limits, Bytes, Power}
+use Rattle.calls.specs.declared.kind.Kind.TheVariants.{Find, MakeFile, MakeDir, Remove, Rename, List as ListEntry, Size, Read, Write}
+use Rattle.calls.specs.declared.kind.Kind.TheVariants.{Resize, SyncFile, SyncTree}
 
 abbrev pub verb_text : Verb → List ℕ
-verb_text (NamedVerb Find) = codes "find"
-verb_text (NamedVerb MakeFile) = codes "make-file"
-verb_text (NamedVerb MakeDir) = codes "make-dir"
-verb_text (NamedVerb Remove) = codes "remove"
-verb_text Rename = codes "rename"
-verb_text (Paired ListEntry) = codes "list"
-verb_text (Paired Read) = codes "read"
-verb_text (Paired Resize) = codes "resize"
-verb_text (Single Size) = codes "size"
-verb_text (Single SyncFile) = codes "sync-file"
-verb_text Write = codes "write"
-verb_text SyncTree = codes "sync-tree"
+verb_text (CallVerb Find) = codes "find"
+verb_text (CallVerb MakeFile) = codes "make-file"
+verb_text (CallVerb MakeDir) = codes "make-dir"
+verb_text (CallVerb Remove) = codes "remove"
+verb_text (CallVerb Rename) = codes "rename"
+verb_text (CallVerb ListEntry) = codes "list"
+verb_text (CallVerb Size) = codes "size"
+verb_text (CallVerb Read) = codes "read"
+verb_text (CallVerb Write) = codes "write"
+verb_text (CallVerb Resize) = codes "resize"
+verb_text (CallVerb SyncFile) = codes "sync-file"
+verb_text (CallVerb SyncTree) = codes "sync-tree"
 verb_text Limits = codes "limits"
 verb_text Bytes = codes "bytes"
 verb_text Power = codes "power"
 
 abbrev pub verbs : List Verb
 verbs =
-    NamedVerb Find ∷ NamedVerb MakeFile ∷ NamedVerb MakeDir ∷ NamedVerb Remove ∷ Rename ∷ Paired ListEntry ∷ Paired Read ∷
-    Paired Resize ∷ Single Size ∷ Single SyncFile ∷ Write ∷ SyncTree ∷ Limits ∷ Bytes ∷ Power ∷ []
+    CallVerb Find ∷ CallVerb MakeFile ∷ CallVerb MakeDir ∷ CallVerb Remove ∷ CallVerb Rename ∷ CallVerb ListEntry ∷ CallVerb Read ∷
+    CallVerb Resize ∷ CallVerb Size ∷ CallVerb SyncFile ∷ CallVerb Write ∷ CallVerb SyncTree ∷ Limits ∷ Bytes ∷ Power ∷ []
 
 -- how many bytes a list begins with that another begins with too
 abbrev pub common : List ℕ → List ℕ → ℕ

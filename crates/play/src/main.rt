@@ -1,23 +1,40 @@
 // Plays a script and prints what its calls answer: play FILE
 #![tactic(auto)]
 
-use player::{Player, split_line};
-use std::io::Write;
+use player::{Player, Trouble, split_line};
+use std::error::Error;
 use std::process::ExitCode;
-use std::{env, fs, io};
+use std::{env, fmt, fs, io};
 
-// Why the program ends before its script does. It has been told on standard error.
-#[derive(Drop)]
+// Why the program ends before its script does.
+#[derive(Debug, Drop)]
 enum Stopped {
+    // there is not one argument
     Arguments,
-    File,
-    Line,
-    Output,
+    // the script of this name cannot be read
+    File(String, io::Error),
+    // the script of this name has trouble in the line of this number
+    Line(String, u64, Trouble),
+    // the system gives no arguments or takes no output
+    System,
 }
+
+impl fmt::Display for Stopped {
+    fn fmt<W: fmt::Write>(&self, f: &mut fmt::Formatter<W>) -> fmt::Result {
+        match self {
+            Stopped::Arguments => write!(f, "give one script: play FILE"),
+            Stopped::File(name, error) => write!(f, "{name}: {error}"),
+            Stopped::Line(name, number, trouble) => write!(f, "{name}: line {number}: {trouble}"),
+            Stopped::System => write!(f, "the system gives no arguments or takes no output"),
+        }
+    }
+}
+
+impl Error for Stopped {}
 
 impl From<io::Error> for Stopped {
     fn from(_e: io::Error) -> Stopped {
-        Stopped::Output
+        Stopped::System
     }
 }
 
@@ -25,29 +42,14 @@ impl From<io::Error> for Stopped {
 fn script_name(rt: &HostRuntime) -> Result<String, Stopped> {
     let mut args = env::args(rt)?;
     let _program = args.next();
-    let name = args.next();
-    let more = args.next();
-    match (name, more) {
+    match (args.next(), args.next()) {
         (Some(name), None) => Ok(name),
-        _ => {
-            eprintln!(rt; "play: give one script: play FILE")?;
-            Err(Stopped::Arguments)
-        }
-    }
-}
-
-fn read_script(rt: &HostRuntime, name: &str) -> Result<Vec<u8>, Stopped> {
-    match fs::read(rt, name) {
-        Ok(text) => Ok(text),
-        Err(e) => {
-            eprintln!(rt; "play: {name}: {e}")?;
-            Err(Stopped::File)
-        }
+        _ => Err(Stopped::Arguments),
     }
 }
 
 // Plays all lines of a text, and stops at the first that is in error.
-fn play_all(rt: &HostRuntime, name: &str, text: &[u8]) -> Result<(), Stopped> {
+fn play_all(rt: &HostRuntime, name: String, text: &[u8]) -> Result<(), Stopped> {
     let mut player = Player::new();
     let mut left = text;
     let mut number: u64 = 0;
@@ -55,11 +57,8 @@ fn play_all(rt: &HostRuntime, name: &str, text: &[u8]) -> Result<(), Stopped> {
         let (line, after) = split_line(left);
         number = number.saturating_add(1);
         match player.play(rt.alloc(), line) {
-            Ok(printed) => rt.stdout().write_all(printed.as_slice())?,
-            Err(trouble) => {
-                eprintln!(rt; "play: {name}: line {number}: {trouble}")?;
-                return Err(Stopped::Line);
-            }
+            Ok(printed) => print!(rt; "{printed}")?,
+            Err(trouble) => return Err(Stopped::Line(name, number, trouble)),
         }
         left = after;
     }
@@ -68,14 +67,20 @@ fn play_all(rt: &HostRuntime, name: &str, text: &[u8]) -> Result<(), Stopped> {
 
 fn play_file(rt: &HostRuntime) -> Result<(), Stopped> {
     let name = script_name(rt)?;
-    let text = read_script(rt, name.as_str())?;
-    play_all(rt, name.as_str(), text.as_slice())
+    match fs::read(rt, name.as_str()) {
+        Ok(text) => play_all(rt, name, text.as_slice()),
+        Err(error) => Err(Stopped::File(name, error)),
+    }
 }
 
-// Standard error has been told already.
+// What is wrong is told on standard error, but where the system fails: then the status alone tells it.
 fn main(rt: HostRuntime) -> ExitCode {
     match play_file(&rt) {
         Ok(()) => ExitCode::SUCCESS,
-        Err(_stopped) => ExitCode::FAILURE,
+        Err(Stopped::System) => ExitCode::FAILURE,
+        Err(stopped) => {
+            let _told = eprintln!(rt; "play: {stopped}");
+            ExitCode::FAILURE
+        }
     }
 }

@@ -2,7 +2,7 @@
 -- No call can be done yet, so each is refused as one that cannot be done, and bytes that are no call as that; power goes at
 -- once or waits for acts that do not come. Where a line is in error nothing is printed for it and the player stands as before.
 -- Definitions only.
-use Rattle.std.specs.Prelude.{◌≡◌, ℕ, Bool, true, false, cond, ◌&&◌, List, [], ◌∷◌, ◌++◌, Some, None, Ok, Err, vec_items, codes, Option, Result, Vec, ◌==◌, nat_le}
+use Rattle.std.specs.Prelude.{◌≡◌, ℕ, Bool, true, false, cond, ◌&&◌, List, [], ◌∷◌, ◌++◌, Some, None, Ok, Err, string_bytes, codes, Option, Result, String, ◌==◌, nat_le}
 use Rattle.std.specs.declared.alloc.Global.{Global}
 use Rattle.model.specs.Calls.{Call, find, make_file, make_dir, remove, rename, list, size, read, write, resize, sync_file}
 use Rattle.model.specs.Calls.{sync_tree, garbled, Answer, refused}
@@ -11,7 +11,9 @@ use Rattle.model.specs.Fs.{Fs, answer}
 use Rattle.codec.specs.CallBytes.{read_call}
 use Rattle.lines.specs.Printing.{print_answer}
 use Rattle.script.specs.Lines.{Line, nothing, limits, ask, by_bytes, power, read_line}
-use Rattle.player.specs.declared.Limits.{Limits}
+use Rattle.calls.specs.declared.Limits.{Limits}
+use Rattle.script.specs.declared.line.Unreadable.{Unreadable}
+use Rattle.script.specs.declared.line.Unreadable.TheVariants as unread
 use Rattle.player.specs.declared.Player.{Player}
 use Rattle.player.specs.declared.Trouble.{Trouble}
 use Rattle.player.specs.declared.Trouble.TheVariants.{Column, NoMemory, NoLimits, LimitsAgain, LimitsRange}
@@ -120,6 +122,11 @@ Fails NoLimits m = m ≡ Err NoLimits
 Fails LimitsAgain m = m ≡ Err LimitsAgain
 Fails LimitsRange m = m ≡ Err LimitsRange
 
-abbrev pub Says : Result (Vec ℕ Global) Trouble → Result (List ℕ) Trouble → Type 0
-Says (Ok v) m = m ≡ Ok (vec_items v)
+abbrev pub Says : Result (String Global) Trouble → Result (List ℕ) Trouble → Type 0
+Says (Ok t) m = m ≡ Ok (string_bytes t)
 Says (Err e) m = Fails e m
+
+-- the trouble with a line that cannot be read
+abbrev pub unreadable : Unreadable → Trouble
+unreadable (unread.Column k) = Column k
+unreadable unread.NoMemory = NoMemory

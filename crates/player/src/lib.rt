@@ -1,35 +1,27 @@
 // Plays a script line by line: takes a line and gives the text to print, or says what is wrong with it.
 #![tactic(auto)]
 
-ghost use Rattle.std.specs.Prelude.{◌≡◌, ◌+◌, ◌<◌, ◌≤◌, true, false, [], ◌∷◌, ◌++◌, length, take, drop, is_ok, if◌then◌else◌, None as Nil, Ok, nat_eq};
+ghost use Rattle.std.specs.Prelude.{◌≡◌, ◌==◌, ◌<◌, false, [], ◌∷◌, ◌++◌, length, position, is_ok, if◌then◌else◌, None as Nil, Ok, nat_eq};
 ghost use Rattle.calls.specs.Meaning.{call_of, answer_of};
 ghost use Rattle.codec.specs.CallBytes.{read_call};
 ghost use Rattle.lines.specs.Printing.{print_answer};
 ghost use Rattle.player.specs.Played.{stage_answer, AsTheModel, allowed, prints_first, printed, played};
-ghost use Rattle.player.specs.Played.{limits_after, waits_if, power_text, Stands, StandsFor, Says};
-ghost use Rattle.player.specs.Split.{line_length, first_line, after_line};
+ghost use Rattle.player.specs.Played.{limits_after, waits_if, power_text, Stands, StandsFor, Says, unreadable};
+ghost use Rattle.player.specs.Split.{first_line, after_line};
 ghost use Rattle.player.specs.declared.Trouble.TheVariants.{NoMemory as OutOfMemory};
 ghost use Rattle.script.specs.Lines.{read_line};
 ghost use Rattle.script.specs.Meaning.{line_of};
 
-use calls::{Answer, Call, Refusal};
+use calls::{Answer, Call, Limits, Refusal};
 use decode::read_call;
-use lines::printing::print_answer;
+use lines::printing::AnswerLine;
 use script::line::{Line, Unreadable, read_line};
 use std::alloc::{AllocError, Global};
+use std::error::Error;
 use std::fmt;
-use words::rest;
-
-// The sizes that a volume is made for.
-#[derive(Clone, Copy, Debug, PartialEq)]
-pub struct Limits {
-    pub cells: u64,
-    pub nodes: u64,
-    pub older: u64,
-}
 
 // Why a line cannot be played.
-#[derive(Clone, Copy, Debug, PartialEq)]
+#[derive(Clone, Copy, Debug, PartialEq, Eq)]
 pub enum Trouble {
     // it ceases to be a line at this column, from 1
     Column(usize),
@@ -45,18 +37,27 @@ pub enum Trouble {
 impl fmt::Display for Trouble {
     fn fmt<W: fmt::Write>(&self, f: &mut fmt::Formatter<W>) -> fmt::Result {
         match self {
-            Trouble::Column(column) => write!(
-                f,
-                "column {}: no line of a script goes on so",
-                *column
-            ),
-            Trouble::NoMemory => write!(f, "not enough memory"),
+            Trouble::Column(column) => write!(f, "{}", Unreadable::Column(*column)),
+            Trouble::NoMemory => write!(f, "{}", Unreadable::NoMemory),
             Trouble::NoLimits => write!(f, "a script begins with its limits"),
             Trouble::LimitsAgain => write!(f, "a script has limits only once"),
             Trouble::LimitsRange => write!(
                 f,
                 "limits are 0 to 64 cells, 1 to 64 nodes and 1 to 16 older trees"
             ),
+        }
+    }
+}
+
+impl Error for Trouble {}
+
+impl From<Unreadable> for Trouble {
+    ghost from_gives = { λ e r. r ≡ unreadable e };
+
+    fn from(e: Unreadable) -> Trouble {
+        match e {
+            Unreadable::Column(column) => Trouble::Column(column),
+            Unreadable::NoMemory => Trouble::NoMemory,
         }
     }
 }
@@ -95,20 +96,17 @@ fn answer_bytes(bytes: &[u8]) -> Answer<'static>
 }
 
 // An answer as a line, with its line feed.
-fn answer_line(heap: Global, answer: &Answer<'_>) -> Result<Vec<u8>, Trouble>
+fn answer_line(heap: Global, answer: &Answer<'_>) -> Result<String, Trouble>
     ensures { Says result (Ok (print_answer (answer_of answer.now) ++ (10 ∷ []))) }
 {
-    let mut out = Vec::new(heap);
-    print_answer(&mut out, answer)?;
-    out.extend_from_slice(b"\n")?;
-    Ok(out)
+    Ok(format!(in heap; "{}\n", AnswerLine(*answer))?)
 }
 
 // Does this program take such limits?
-fn takes(cells: u64, nodes: u64, older: u64) -> bool
-    ensures { result ≡ allowed cells nodes older }
+fn takes(limits: Limits) -> bool
+    ensures { result ≡ allowed limits.cells limits.nodes limits.older }
 {
-    cells <= 64 && 1 <= nodes && nodes <= 64 && 1 <= older && older <= 16
+    limits.cells <= 64 && (1..=64).contains(&limits.nodes) && (1..=16).contains(&limits.older)
 }
 
 impl Player {
@@ -123,48 +121,42 @@ impl Player {
     }
 
     // A line before the limits are known.
-    fn begin(&mut self, heap: Global, said: &Line) -> Result<Vec<u8>, Trouble>
+    fn begin(&mut self, heap: Global, said: &Line) -> Result<String, Trouble>
         requires { self.old.limits ≡ Nil }
         ensures text { Says result (prints_first (line_of said.now)) }
         ensures limits { self.new.limits ≡ (if is_ok result then limits_after Nil (line_of said.now) else Nil) }
         ensures waiting { self.new.waiting ≡ self.old.waiting }
     {
         match said {
-            Line::Nothing => Ok(Vec::new(heap)),
-            Line::Limits(cells, nodes, older) => {
-                if !takes(*cells, *nodes, *older) {
+            Line::Nothing => Ok(String::new(heap)),
+            Line::Limits(limits) => {
+                if !takes(*limits) {
                     return Err(Trouble::LimitsRange);
                 }
-                self.limits = Some(Limits {
-                    cells: *cells,
-                    nodes: *nodes,
-                    older: *older,
-                });
-                Ok(Vec::new(heap))
+                self.limits = Some(*limits);
+                Ok(String::new(heap))
             }
             _ => Err(Trouble::NoLimits),
         }
     }
 
     // Power goes once so many acts are done: at once where it is none, else it waits for acts that do not come.
-    fn power(&mut self, heap: Global, count: u64) -> Result<Vec<u8>, Trouble>
+    fn power(&mut self, heap: Global, count: u64) -> Result<String, Trouble>
         ensures text { Says result (Ok (if self.old.waiting then [] else (if nat_eq count 0 then power_text else []))) }
         ensures limits { self.new.limits ≡ self.old.limits }
         ensures waiting { self.new.waiting ≡ waits_if (is_ok result) self.old.waiting count }
     {
-        let mut out = Vec::new(heap);
         if self.waiting {
-            return Ok(out);
+            return Ok(String::new(heap));
         }
         if count == 0 {
-            out.extend_from_slice(b"power\nfound\n")?;
-            return Ok(out);
+            return Ok("power\nfound\n".to_string(heap)?);
         }
         self.waiting = true;
-        Ok(out)
+        Ok(String::new(heap))
     }
 
-    fn follow(&mut self, heap: Global, said: &Line) -> Result<Vec<u8>, Trouble>
+    fn follow(&mut self, heap: Global, said: &Line) -> Result<String, Trouble>
         ensures text { Says result (printed self.old.limits self.old.waiting (line_of said.now)) }
         ensures stands { Stands (is_ok result) self.old self.new (line_of said.now) }
     {
@@ -172,8 +164,8 @@ impl Player {
             return self.begin(heap, said);
         }
         match said {
-            Line::Nothing => Ok(Vec::new(heap)),
-            Line::Limits(_, _, _) => Err(Trouble::LimitsAgain),
+            Line::Nothing => Ok(String::new(heap)),
+            Line::Limits(_) => Err(Trouble::LimitsAgain),
             Line::Call(asked) => answer_line(heap, &answer_call(&asked.call())),
             Line::Bytes(bytes) => answer_line(heap, &answer_bytes(bytes.as_slice())),
             Line::Power(count, _) => self.power(heap, *count),
@@ -181,62 +173,38 @@ impl Player {
     }
 
     // Plays one line: the text to print.
-    pub fn play(&mut self, heap: Global, line: &[u8]) -> Result<Vec<u8>, Trouble>
+    #[tactic(auto, using(crate::proofs::Standing::as_before))]
+    pub fn play(&mut self, heap: Global, line: &[u8]) -> Result<String, Trouble>
         ensures text { Says result (played self.old.limits self.old.waiting line.now) }
         ensures stands { StandsFor (is_ok result) self.old self.new (read_line line.now) }
     {
-        match read_line(heap, line) {
-            Ok(said) => self.follow(heap, &said),
-            Err(Unreadable::Column(column)) => Err(Trouble::Column(column)),
-            Err(Unreadable::NoMemory) => Err(Trouble::NoMemory),
-        }
+        let said = read_line(heap, line)?;
+        self.follow(heap, &said)
     }
 }
 
-// How long the first line of a text is.
-fn line_len(text: &[u8]) -> usize
-    ensures value { result ≡ line_length text.now }
-    ensures within { result ≤ length text.now }
+// Where the first line feed stands.
+fn line_feed(text: &[u8]) -> Option<usize>
+    ensures { result ≡ position (λ b. b == 10) text.now }
 {
-    for (i, b) in text.iter().enumerate() {
-        if *b == b'\n' {
-            return i;
-        }
-    }
-    text.len()
-}
-
-// The first bytes of a text.
-fn front(text: &[u8], n: usize) -> &[u8]
-    requires { n ≤ length text.now }
-    ensures { result.now ≡ take n text.now }
-{
-    &text[0..n]
-}
-
-// What is left of a text from a place on.
-fn back(text: &[u8], at: usize) -> &[u8]
-    requires { at ≤ length text.now }
-    ensures value { result.now ≡ drop at text.now }
-    ensures len { length result.now + at ≡ length text.now }
-{
-    rest(text, at)
+    text.iter().position(|b| *b == b'\n')
 }
 
 // The first line of a text, and what comes after its line feed.
+#[tactic(auto, using(crate::proofs::Lines::found, crate::proofs::Lines::missing))]
 pub fn split_line(text: &[u8]) -> (&[u8], &[u8])
     ensures line { result.0.now ≡ first_line text.now }
     ensures after { result.1.now ≡ after_line text.now }
     ensures shorter { 0 < length text.now → length result.1.now < length text.now }
 {
-    let n = line_len(text);
-    if n == text.len() {
-        return (front(text, n), &[]);
+    match line_feed(text) {
+        Some(n) => (&text[..n], &text[n + 1..]),
+        None => (text, &[]),
     }
-    (front(text, n), back(text, n + 1))
 }
 
 // A stage that can do no call answers as the model says.
+#[tactic(auto, using(crate::proofs::Stage::as_the_model))]
 pub fn answers_as_the_model()
     ensures { AsTheModel }
 {}

@@ -27,6 +27,9 @@ ended x [] = Ok x
 ended x (b ∷ bs) = Err (suc (length bs))
 
 -- the fields that follow a verb, up to the end
+abbrev pub one_named : List ℕ → Result (ℕ × List ℕ) ℕ
+one_named t = then (named_field t) (λ p. ended (p.0, p.1) p.2)
+
 abbrev pub one_number : List ℕ → Result ℕ ℕ
 one_number t = then (number_field t) (λ p. ended p.0 p.1)
 

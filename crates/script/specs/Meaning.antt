@@ -26,7 +26,7 @@ asked_of SyncTree = sync_tree
 
 abbrev pub line_of : CodeLine → Line
 line_of Nothing = nothing
-line_of (Limits c n o) = limits c n o
+line_of (Limits l) = limits l.cells l.nodes l.older
 line_of (CallLine a) = ask (asked_of a)
 line_of (Bytes b) = by_bytes (vec_items b)
 line_of (Power n cs) = power n (vec_items cs)

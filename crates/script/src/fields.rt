@@ -1,14 +1,14 @@
 // The fields of a line, after its verb.
-ghost use Rattle.std.specs.Prelude.{[], length};
-ghost use Rattle.script.specs.Fields.{after as after_byte, ended, number_field, word_field, named_field, one_number};
+ghost use Rattle.std.specs.Prelude.{◌<◌, [], length, IfOk};
+ghost use Rattle.script.specs.Fields.{after as after_byte, ended, number_field, word_field, named_field, one_named, one_number};
 ghost use Rattle.script.specs.Fields.{two_numbers, one_word, choice_field, choices as choices_of};
 ghost use Rattle.words.specs.Outcome.{Told};
 
 use std::alloc::Global;
-use words::{Unread, number, rest, word};
+use words::{Unread, number, word};
 
 // Which of the things that a block had it has once power is back: 0 is the newest.
-#[derive(Clone, Copy)]
+#[derive(Clone, Copy, Debug, PartialEq, Eq)]
 pub struct Choice {
     pub block: u64,
     pub choice: u64,
@@ -16,26 +16,28 @@ pub struct Choice {
 
 // What is left after one byte, which has to be this one.
 fn after(byte: u8, text: &[u8]) -> Result<&[u8], Unread>
-    ensures { Told (λ t. t.now) result (after_byte byte text.now) }
+    ensures told { Told (λ t. t.now) result (after_byte byte text.now) }
+    ensures shorter { IfOk result (λ t. length t.now < length text.now) }
 {
-    if text.len() == 0 || text[0] != byte {
-        return Err(Unread::Left(text.len()));
+    match text {
+        [b, after @ ..] if *b == byte => Ok(after),
+        _ => Err(Unread::Left(text.len())),
     }
-    Ok(rest(text, 1))
 }
 
 // The line has to end here.
 pub(crate) fn end(text: &[u8]) -> Result<(), Unread>
     ensures { Told (λ u. u) result (ended tt text.now) }
 {
-    if text.len() == 0 {
+    if text.is_empty() {
         return Ok(());
     }
     Err(Unread::Left(text.len()))
 }
 
 pub(crate) fn next_number(text: &[u8]) -> Result<(u64, &[u8]), Unread>
-    ensures { Told (λ p. (p.0, p.1.now)) result (number_field text.now) }
+    ensures told { Told (λ p. (p.0, p.1.now)) result (number_field text.now) }
+    ensures shorter { IfOk result (λ p. length p.1.now < length text.now) }
 {
     let text = after(b' ', text)?;
     number(text)
@@ -55,6 +57,15 @@ pub(crate) fn next_named(heap: Global, text: &[u8]) -> Result<(u64, Vec<u8>, &[u
     let (d, text) = next_number(text)?;
     let (n, text) = next_word(heap, text)?;
     Ok((d, n, text))
+}
+
+// A directory and a name in it, and the end.
+pub(crate) fn one_named(heap: Global, text: &[u8]) -> Result<(u64, Vec<u8>), Unread>
+    ensures { Told (λ p. (p.0, p.1.items)) result (one_named text.now) }
+{
+    let (d, n, text) = next_named(heap, text)?;
+    end(text)?;
+    Ok((d, n))
 }
 
 // One number, and the end.
@@ -86,7 +97,8 @@ pub(crate) fn one_word(heap: Global, text: &[u8]) -> Result<Vec<u8>, Unread>
 }
 
 fn next_choice(text: &[u8]) -> Result<(Choice, &[u8]), Unread>
-    ensures { Told (λ p. (p.0, p.1.now)) result (choice_field text.now) }
+    ensures told { Told (λ p. (p.0, p.1.now)) result (choice_field text.now) }
+    ensures shorter { IfOk result (λ p. length p.1.now < length text.now) }
 {
     let (block, text) = next_number(text)?;
     let text = after(b'=', text)?;
@@ -100,14 +112,10 @@ pub(crate) fn choices(heap: Global, text: &[u8]) -> Result<Vec<Choice>, Unread>
 {
     let mut all = Vec::new(heap);
     let mut left = text;
-    for _k in 0..text.len() {
-        if left.len() == 0 {
-            break;
-        }
-        let (choice, more) = next_choice(left)?;
+    while !left.is_empty() {
+        let (choice, after) = next_choice(left)?;
         all.push(choice)?;
-        left = more;
+        left = after;
     }
-    end(left)?;
     Ok(all)
 }

@@ -1,21 +1,26 @@
 // Lines of a script.
 ghost use Rattle.std.specs.Prelude.{◌≡◌};
 ghost use Rattle.calls.specs.Meaning.{call_of};
-ghost use Rattle.script.specs.Lines.{passed as passed_over, named_call, pair_call, one_call, read_named, read_rename, read_pair};
-ghost use Rattle.script.specs.Lines.{read_one, read_write, read_limits, read_power, read_fields, read_whole, read_line};
+ghost use Rattle.script.specs.Lines.{passed as passed_over, read_rename, read_write, read_asked};
+ghost use Rattle.script.specs.Lines.{read_limits, read_power, read_fields, read_whole, read_line};
 ghost use Rattle.script.specs.Meaning.{asked_of, line_of, LineTold};
 ghost use Rattle.words.specs.Outcome.{Told};
 
 use crate::fields::{
-    Choice, choices, end, next_named, next_number, next_word, one_number, one_word, two_numbers,
+    Choice, choices, end, next_named, next_number, next_word, one_named, one_number, one_word,
+    two_numbers,
 };
-use calls::Call;
-use lines::verb::{Named, One, Pair, Verb, verb_of};
+use calls::kind::Kind;
+use calls::{Call, Limits};
+use lines::verb::{Verb, verb_of};
 use std::alloc::Global;
+use std::error::Error;
+use std::fmt;
 use words::Unread;
 
 // A call with names of its own.
-#[derive(Drop)]
+// kept: `calls::Call` lends its names and may be Garbled; a line's names are decoded from its words, and a line is never garbled
+#[derive(Debug, PartialEq, Eq, Drop)]
 pub enum Asked {
     Find(u64, Vec<u8>),
     MakeFile(u64, Vec<u8>),
@@ -32,12 +37,11 @@ pub enum Asked {
 }
 
 // What a line says.
-#[derive(Drop)]
+#[derive(Debug, PartialEq, Eq, Drop)]
 pub enum Line {
     // blank, or a remark
     Nothing,
-    // cells, nodes, older trees
-    Limits(u64, u64, u64),
+    Limits(Limits),
     Call(Asked),
     // a call by its bytes
     Bytes(Vec<u8>),
@@ -46,12 +50,27 @@ pub enum Line {
 }
 
 // Why a line could not be read.
-#[derive(Clone, Copy, Debug, PartialEq)]
+#[derive(Clone, Copy, Debug, PartialEq, Eq)]
 pub enum Unreadable {
     // the column, from 1, at which it ceases to be a line
     Column(usize),
     NoMemory,
 }
+
+impl fmt::Display for Unreadable {
+    fn fmt<W: fmt::Write>(&self, f: &mut fmt::Formatter<W>) -> fmt::Result {
+        match self {
+            Unreadable::Column(column) => write!(
+                f,
+                "column {}: no line of a script goes on so",
+                *column
+            ),
+            Unreadable::NoMemory => write!(f, "not enough memory"),
+        }
+    }
+}
+
+impl Error for Unreadable {}
 
 impl Asked {
     // The call, which borrows the names.
@@ -75,75 +94,43 @@ impl Asked {
     }
 }
 
-fn named(verb: Named, d: u64, n: Vec<u8>) -> Asked
-    ensures { asked_of result ≡ named_call verb d n.items }
-{
-    match verb {
-        Named::Find => Asked::Find(d, n),
-        Named::MakeFile => Asked::MakeFile(d, n),
-        Named::MakeDir => Asked::MakeDir(d, n),
-        Named::Remove => Asked::Remove(d, n),
-    }
-}
-
-fn paired(verb: Pair, m: u64, n: u64) -> Asked
-    ensures { asked_of result ≡ pair_call verb m n }
-{
-    match verb {
-        Pair::List => Asked::List(m, n),
-        Pair::Read => Asked::Read(m, n),
-        Pair::Resize => Asked::Resize(m, n),
-    }
-}
-
-fn single(verb: One, i: u64) -> Asked
-    ensures { asked_of result ≡ one_call verb i }
-{
-    match verb {
-        One::Size => Asked::Size(i),
-        One::SyncFile => Asked::SyncFile(i),
-    }
-}
-
-fn read_named(heap: Global, verb: Named, text: &[u8]) -> Result<Line, Unread>
-    ensures { Told line_of result (read_named verb text.now) }
-{
-    let (d, n, text) = next_named(heap, text)?;
-    end(text)?;
-    Ok(Line::Call(named(verb, d, n)))
-}
-
-fn read_rename(heap: Global, text: &[u8]) -> Result<Line, Unread>
-    ensures { Told line_of result (read_rename text.now) }
+fn read_rename(heap: Global, text: &[u8]) -> Result<Asked, Unread>
+    ensures { Told asked_of result (read_rename text.now) }
 {
     let (d, n, text) = next_named(heap, text)?;
     let (e, m, text) = next_named(heap, text)?;
     end(text)?;
-    Ok(Line::Call(Asked::Rename(d, n, e, m)))
+    Ok(Asked::Rename(d, n, e, m))
 }
 
-fn read_pair(verb: Pair, text: &[u8]) -> Result<Line, Unread>
-    ensures { Told line_of result (read_pair verb text.now) }
-{
-    let (m, n) = two_numbers(text)?;
-    Ok(Line::Call(paired(verb, m, n)))
-}
-
-fn read_one(verb: One, text: &[u8]) -> Result<Line, Unread>
-    ensures { Told line_of result (read_one verb text.now) }
-{
-    let i = one_number(text)?;
-    Ok(Line::Call(single(verb, i)))
-}
-
-fn read_write(heap: Global, text: &[u8]) -> Result<Line, Unread>
-    ensures { Told line_of result (read_write text.now) }
+fn read_write(heap: Global, text: &[u8]) -> Result<Asked, Unread>
+    ensures { Told asked_of result (read_write text.now) }
 {
     let (i, text) = next_number(text)?;
     let (o, text) = next_number(text)?;
     let (b, text) = next_word(heap, text)?;
     end(text)?;
-    Ok(Line::Call(Asked::Write(i, o, b)))
+    Ok(Asked::Write(i, o, b))
+}
+
+// The fields of a call, up to the end of the line.
+fn read_asked(heap: Global, kind: Kind, text: &[u8]) -> Result<Asked, Unread>
+    ensures { Told asked_of result (read_asked kind text.now) }
+{
+    match kind {
+        Kind::Find => one_named(heap, text).map(|(d, n)| Asked::Find(d, n)),
+        Kind::MakeFile => one_named(heap, text).map(|(d, n)| Asked::MakeFile(d, n)),
+        Kind::MakeDir => one_named(heap, text).map(|(d, n)| Asked::MakeDir(d, n)),
+        Kind::Remove => one_named(heap, text).map(|(d, n)| Asked::Remove(d, n)),
+        Kind::Rename => read_rename(heap, text),
+        Kind::List => two_numbers(text).map(|(d, k)| Asked::List(d, k)),
+        Kind::Size => one_number(text).map(|i| Asked::Size(i)),
+        Kind::Read => two_numbers(text).map(|(i, o)| Asked::Read(i, o)),
+        Kind::Write => read_write(heap, text),
+        Kind::Resize => two_numbers(text).map(|(i, n)| Asked::Resize(i, n)),
+        Kind::SyncFile => one_number(text).map(|i| Asked::SyncFile(i)),
+        Kind::SyncTree => end(text).map(|_ended| Asked::SyncTree),
+    }
 }
 
 fn read_limits(text: &[u8]) -> Result<Line, Unread>
@@ -151,35 +138,27 @@ fn read_limits(text: &[u8]) -> Result<Line, Unread>
 {
     let (cells, text) = next_number(text)?;
     let (nodes, older) = two_numbers(text)?;
-    Ok(Line::Limits(cells, nodes, older))
+    Ok(Line::Limits(Limits {
+        cells,
+        nodes,
+        older,
+    }))
 }
 
 fn read_power(heap: Global, text: &[u8]) -> Result<Line, Unread>
     ensures { Told line_of result (read_power text.now) }
 {
     let (count, text) = next_number(text)?;
-    let all = choices(heap, text)?;
-    Ok(Line::Power(count, all))
+    Ok(Line::Power(count, choices(heap, text)?))
 }
 
 fn read_fields(heap: Global, verb: Verb, text: &[u8]) -> Result<Line, Unread>
     ensures { Told line_of result (read_fields verb text.now) }
 {
     match verb {
-        Verb::Named(v) => read_named(heap, v, text),
-        Verb::Rename => read_rename(heap, text),
-        Verb::Paired(v) => read_pair(v, text),
-        Verb::Single(v) => read_one(v, text),
-        Verb::Write => read_write(heap, text),
-        Verb::SyncTree => {
-            end(text)?;
-            Ok(Line::Call(Asked::SyncTree))
-        }
+        Verb::Call(kind) => Ok(Line::Call(read_asked(heap, kind, text)?)),
         Verb::Limits => read_limits(text),
-        Verb::Bytes => {
-            let bytes = one_word(heap, text)?;
-            Ok(Line::Bytes(bytes))
-        }
+        Verb::Bytes => Ok(Line::Bytes(one_word(heap, text)?)),
         Verb::Power => read_power(heap, text),
     }
 }
@@ -188,7 +167,7 @@ fn read_fields(heap: Global, verb: Verb, text: &[u8]) -> Result<Line, Unread>
 fn passed(line: &[u8]) -> bool
     ensures { result ≡ passed_over line.now }
 {
-    line.len() == 0 || line[0] == b'#'
+    matches!(line, [] | [b'#', ..])
 }
 
 fn read_whole(heap: Global, line: &[u8]) -> Result<Line, Unread>
@@ -205,11 +184,10 @@ fn read_whole(heap: Global, line: &[u8]) -> Result<Line, Unread>
 pub fn read_line(heap: Global, line: &[u8]) -> Result<Line, Unreadable>
     ensures { LineTold result (read_line line.now) }
 {
-    match read_whole(heap, line) {
-        Ok(said) => Ok(said),
-        Err(Unread::Left(left)) => Err(Unreadable::Column(
-            line.len().saturating_sub(left).saturating_add(1),
-        )),
-        Err(Unread::NoMemory) => Err(Unreadable::NoMemory),
-    }
+    read_whole(heap, line).map_err(|e| match e {
+        Unread::Left(left) => {
+            Unreadable::Column(line.len().saturating_sub(left).saturating_add(1))
+        }
+        Unread::NoMemory => Unreadable::NoMemory,
+    })
 }

@@ -2,12 +2,12 @@
 use calls::Call;
 use decode::read_call;
 use encode::write_call;
-use lines::printing::print_call;
+use lines::printing::CallLine;
 use player::Player;
 use script::line::{Line, read_line};
 use std::alloc::Global;
 use std::test::Fail;
-use words::print_word;
+use words::printing::Word;
 
 static AFTERNOON: [&[u8]; 29] = [
     b"make-file 0 a",
@@ -45,8 +45,7 @@ static AFTERNOON: [&[u8]; 29] = [
 fn call_bytes(heap: Global, line: &[u8]) -> Result<Vec<u8>, Fail> {
     let mut bytes = Vec::new(heap);
     bytes.resize(4200, 0)?;
-    let said = read_line(heap, line)?;
-    let Line::Call(asked) = &said else {
+    let Line::Call(asked) = read_line(heap, line)? else {
         return Err(Fail::new("no call"));
     };
     let n = write_call(&asked.call(), bytes.as_mut_slice()).ok_or("no room")?;
@@ -54,16 +53,8 @@ fn call_bytes(heap: Global, line: &[u8]) -> Result<Vec<u8>, Fail> {
     Ok(bytes)
 }
 
-// The line that gives a call by its bytes.
-fn bytes_line(heap: Global, bytes: &[u8]) -> Result<Vec<u8>, Fail> {
-    let mut line = Vec::new(heap);
-    line.extend_from_slice(b"bytes ")?;
-    print_word(&mut line, bytes)?;
-    Ok(line)
-}
-
 // What a line prints, after limits.
-fn played(heap: Global, line: &[u8]) -> Result<Vec<u8>, Fail> {
+fn played(heap: Global, line: &[u8]) -> Result<String, Fail> {
     let mut player = Player::new();
     player.play(heap, b"limits 6 6 3")?;
     Ok(player.play(heap, line)?)
@@ -72,14 +63,14 @@ fn played(heap: Global, line: &[u8]) -> Result<Vec<u8>, Fail> {
 #[test]
 fn afternoon_by_bytes(rt: HostRuntime) -> Result<(), Fail> {
     let heap = rt.alloc();
-    for line in AFTERNOON.iter() {
+    for line in &AFTERNOON {
         let bytes = call_bytes(heap, line)?;
-        let by_bytes = played(heap, bytes_line(heap, bytes.as_slice())?.as_slice())?;
+        let line_of_bytes = format!(in heap; "bytes {}", Word(bytes.as_slice()))?;
+        let by_bytes = played(heap, line_of_bytes.as_bytes())?;
         let by_line = played(heap, line)?;
-        assert_eq!(rt; by_bytes.as_slice() == by_line.as_slice(), true);
-        let mut again = Vec::new(heap);
-        print_call(&mut again, &read_call(bytes.as_slice()))?;
-        assert_eq!(rt; again.as_slice() == *line, true);
+        assert_eq!(rt; by_bytes, by_line);
+        let again = CallLine(read_call(bytes.as_slice())).to_string(heap)?;
+        assert_eq!(rt; again.as_bytes(), *line);
     }
     Ok(())
 }

@@ -1,278 +1,81 @@
 // Lines that are calls, with the lines that are printed for them; and lines that are none, with the column, from 1, at which
 // they cease to be one.
-pub(crate) struct Same {
-    pub line: &'static [u8],
-    pub printed: &'static [u8],
-}
-
-pub(crate) struct Wrong {
-    pub line: &'static [u8],
-    pub column: usize,
-}
-
-pub(crate) static CALLS: [Same; 16] = [
-    Same {
-        line: b"find 0 a",
-        printed: b"find 0 a",
-    },
-    Same {
-        line: b"make-file 1 \\x20",
-        printed: b"make-file 1 \\x20",
-    },
-    Same {
-        line: b"make-dir 2 dddd",
-        printed: b"make-dir 2 d\\{4}",
-    },
-    Same {
-        line: b"remove 3 \\-",
-        printed: b"remove 3 \\-",
-    },
-    Same {
-        line: b"rename 0 a 12 b",
-        printed: b"rename 0 a 12 b",
-    },
-    Same {
-        line: b"rename 0 \\- 0 \\-",
-        printed: b"rename 0 \\- 0 \\-",
-    },
-    Same {
-        line: b"list 0 18446744073709551615",
-        printed: b"list 0 18446744073709551615",
-    },
-    Same {
-        line: b"size 007",
-        printed: b"size 7",
-    },
-    Same {
-        line: b"size 00",
-        printed: b"size 0",
-    },
-    Same {
-        line: b"read 1 2",
-        printed: b"read 1 2",
-    },
-    Same {
-        line: b"write 1 0 \\x01\\{4096}",
-        printed: b"write 1 0 \\x01\\{4096}",
-    },
-    Same {
-        line: b"write 1 0 x",
-        printed: b"write 1 0 x",
-    },
-    Same {
-        line: b"resize 3 70000",
-        printed: b"resize 3 70000",
-    },
-    Same {
-        line: b"sync-file 9",
-        printed: b"sync-file 9",
-    },
-    Same {
-        line: b"sync-tree",
-        printed: b"sync-tree",
-    },
-    Same {
-        line: b"find 10 #",
-        printed: b"find 10 #",
-    },
+// A line, and the line that is printed for its call.
+pub(crate) static CALLS: [(&[u8], &[u8]); 16] = [
+    (b"find 0 a", b"find 0 a"),
+    (b"make-file 1 \\x20", b"make-file 1 \\x20"),
+    (b"make-dir 2 dddd", b"make-dir 2 d\\{4}"),
+    (b"remove 3 \\-", b"remove 3 \\-"),
+    (b"rename 0 a 12 b", b"rename 0 a 12 b"),
+    (b"rename 0 \\- 0 \\-", b"rename 0 \\- 0 \\-"),
+    (
+        b"list 0 18446744073709551615",
+        b"list 0 18446744073709551615",
+    ),
+    (b"size 007", b"size 7"),
+    (b"size 00", b"size 0"),
+    (b"read 1 2", b"read 1 2"),
+    (b"write 1 0 \\x01\\{4096}", b"write 1 0 \\x01\\{4096}"),
+    (b"write 1 0 x", b"write 1 0 x"),
+    (b"resize 3 70000", b"resize 3 70000"),
+    (b"sync-file 9", b"sync-file 9"),
+    (b"sync-tree", b"sync-tree"),
+    (b"find 10 #", b"find 10 #"),
 ];
 
-pub(crate) static WRONG: [Wrong; 48] = [
+// A line, and the column.
+pub(crate) static WRONG: [(&[u8], usize); 48] = [
     // verbs
-    Wrong {
-        line: b" ",
-        column: 1,
-    },
-    Wrong {
-        line: b"x",
-        column: 1,
-    },
-    Wrong {
-        line: b"Find 0 a",
-        column: 1,
-    },
-    Wrong {
-        line: b"make",
-        column: 5,
-    },
-    Wrong {
-        line: b"make-foo 0 a",
-        column: 7,
-    },
-    Wrong {
-        line: b"re",
-        column: 3,
-    },
-    Wrong {
-        line: b"rex",
-        column: 3,
-    },
-    Wrong {
-        line: b"sync-",
-        column: 6,
-    },
-    Wrong {
-        line: b"sizes 1",
-        column: 5,
-    },
+    (b" ", 1),
+    (b"x", 1),
+    (b"Find 0 a", 1),
+    (b"make", 5),
+    (b"make-foo 0 a", 7),
+    (b"re", 3),
+    (b"rex", 3),
+    (b"sync-", 6),
+    (b"sizes 1", 5),
     // numbers
-    Wrong {
-        line: b"size",
-        column: 5,
-    },
-    Wrong {
-        line: b"size ",
-        column: 6,
-    },
-    Wrong {
-        line: b"size\t1",
-        column: 5,
-    },
-    Wrong {
-        line: b"size  1",
-        column: 6,
-    },
-    Wrong {
-        line: b"size -1",
-        column: 6,
-    },
-    Wrong {
-        line: b"size +1",
-        column: 6,
-    },
-    Wrong {
-        line: b"size 1a",
-        column: 7,
-    },
-    Wrong {
-        line: b"size 18446744073709551616",
-        column: 25,
-    },
-    Wrong {
-        line: b"size 99999999999999999999",
-        column: 25,
-    },
-    Wrong {
-        line: b"read 1",
-        column: 7,
-    },
+    (b"size", 5),
+    (b"size ", 6),
+    (b"size\t1", 5),
+    (b"size  1", 6),
+    (b"size -1", 6),
+    (b"size +1", 6),
+    (b"size 1a", 7),
+    (b"size 18446744073709551616", 25),
+    (b"size 99999999999999999999", 25),
+    (b"read 1", 7),
     // the end
-    Wrong {
-        line: b"size 1 ",
-        column: 7,
-    },
-    Wrong {
-        line: b"size 1 2",
-        column: 7,
-    },
-    Wrong {
-        line: b"sync-tree ",
-        column: 10,
-    },
-    Wrong {
-        line: b"find 0 a b",
-        column: 9,
-    },
-    Wrong {
-        line: b"size 1\r",
-        column: 7,
-    },
+    (b"size 1 ", 7),
+    (b"size 1 2", 7),
+    (b"sync-tree ", 10),
+    (b"find 0 a b", 9),
+    (b"size 1\r", 7),
     // words
-    Wrong {
-        line: b"find 0 ",
-        column: 8,
-    },
-    Wrong {
-        line: b"find 0  a",
-        column: 8,
-    },
-    Wrong {
-        line: b"find 0 \x7f",
-        column: 8,
-    },
-    Wrong {
-        line: b"find 0 a\xc3\xa9",
-        column: 9,
-    },
-    Wrong {
-        line: b"find 0 \\",
-        column: 9,
-    },
-    Wrong {
-        line: b"find 0 \\n",
-        column: 9,
-    },
-    Wrong {
-        line: b"find 0 \\x",
-        column: 10,
-    },
-    Wrong {
-        line: b"find 0 \\x4",
-        column: 11,
-    },
-    Wrong {
-        line: b"find 0 \\xA0",
-        column: 10,
-    },
-    Wrong {
-        line: b"find 0 \\x0G",
-        column: 11,
-    },
-    Wrong {
-        line: b"find 0 \\{3}",
-        column: 9,
-    },
-    Wrong {
-        line: b"find 0 a\\{}",
-        column: 11,
-    },
-    Wrong {
-        line: b"find 0 a\\{0}",
-        column: 12,
-    },
-    Wrong {
-        line: b"find 0 a\\{3",
-        column: 12,
-    },
-    Wrong {
-        line: b"find 0 a\\{3}\\{3}",
-        column: 14,
-    },
-    Wrong {
-        line: b"find 0 a\\{18446744073709551616}",
-        column: 30,
-    },
-    Wrong {
-        line: b"find 0 \\-a",
-        column: 10,
-    },
-    Wrong {
-        line: b"find 0 a\\-",
-        column: 10,
-    },
+    (b"find 0 ", 8),
+    (b"find 0  a", 8),
+    (b"find 0 \x7f", 8),
+    (b"find 0 a\xc3\xa9", 9),
+    (b"find 0 \\", 9),
+    (b"find 0 \\n", 9),
+    (b"find 0 \\x", 10),
+    (b"find 0 \\x4", 11),
+    (b"find 0 \\xA0", 10),
+    (b"find 0 \\x0G", 11),
+    (b"find 0 \\{3}", 9),
+    (b"find 0 a\\{}", 11),
+    (b"find 0 a\\{0}", 12),
+    (b"find 0 a\\{3", 12),
+    (b"find 0 a\\{3}\\{3}", 14),
+    (b"find 0 a\\{18446744073709551616}", 30),
+    (b"find 0 \\-a", 10),
+    (b"find 0 a\\-", 10),
     // limits, bytes and power
-    Wrong {
-        line: b"limits 1 2",
-        column: 11,
-    },
-    Wrong {
-        line: b"bytes",
-        column: 6,
-    },
-    Wrong {
-        line: b"power",
-        column: 6,
-    },
-    Wrong {
-        line: b"power 1 2",
-        column: 10,
-    },
-    Wrong {
-        line: b"power 1 2=",
-        column: 11,
-    },
-    Wrong {
-        line: b"power 1 2=3,4=5",
-        column: 12,
-    },
+    (b"limits 1 2", 11),
+    (b"bytes", 6),
+    (b"power", 6),
+    (b"power 1 2", 10),
+    (b"power 1 2=", 11),
+    (b"power 1 2=3,4=5", 12),
 ];

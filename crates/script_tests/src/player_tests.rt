@@ -2,158 +2,45 @@
 use player::{Player, Trouble, split_line};
 use std::process::Abort;
 
-// A line, what it prints, and what is wrong with it, if anything.
-struct Step {
-    line: &'static [u8],
-    text: &'static [u8],
-    trouble: Option<Trouble>,
-}
-
-static LIMITS_FIRST: [Step; 13] = [
-    Step {
-        line: b"# remark",
-        text: b"",
-        trouble: None,
-    },
-    Step {
-        line: b"sync-tree",
-        text: b"",
-        trouble: Some(Trouble::NoLimits),
-    },
-    Step {
-        line: b"bytes \\-",
-        text: b"",
-        trouble: Some(Trouble::NoLimits),
-    },
-    Step {
-        line: b"power 0",
-        text: b"",
-        trouble: Some(Trouble::NoLimits),
-    },
-    Step {
-        line: b"limits 65 1 1",
-        text: b"",
-        trouble: Some(Trouble::LimitsRange),
-    },
-    Step {
-        line: b"limits 0 0 1",
-        text: b"",
-        trouble: Some(Trouble::LimitsRange),
-    },
-    Step {
-        line: b"limits 0 65 1",
-        text: b"",
-        trouble: Some(Trouble::LimitsRange),
-    },
-    Step {
-        line: b"limits 0 1 0",
-        text: b"",
-        trouble: Some(Trouble::LimitsRange),
-    },
-    Step {
-        line: b"limits 0 1 17",
-        text: b"",
-        trouble: Some(Trouble::LimitsRange),
-    },
-    Step {
-        line: b"limits 0 1",
-        text: b"",
-        trouble: Some(Trouble::Column(11)),
-    },
-    Step {
-        line: b"limits 64 64 16",
-        text: b"",
-        trouble: None,
-    },
-    Step {
-        line: b"limits 0 1 1",
-        text: b"",
-        trouble: Some(Trouble::LimitsAgain),
-    },
-    Step {
-        line: b"sync-tree",
-        text: b"refused 2 0\n",
-        trouble: None,
-    },
+// A line, and what it prints or what is wrong with it.
+static LIMITS_FIRST: [(&[u8], Result<&str, Trouble>); 13] = [
+    (b"# remark", Ok("")),
+    (b"sync-tree", Err(Trouble::NoLimits)),
+    (b"bytes \\-", Err(Trouble::NoLimits)),
+    (b"power 0", Err(Trouble::NoLimits)),
+    (b"limits 65 1 1", Err(Trouble::LimitsRange)),
+    (b"limits 0 0 1", Err(Trouble::LimitsRange)),
+    (b"limits 0 65 1", Err(Trouble::LimitsRange)),
+    (b"limits 0 1 0", Err(Trouble::LimitsRange)),
+    (b"limits 0 1 17", Err(Trouble::LimitsRange)),
+    (b"limits 0 1", Err(Trouble::Column(11))),
+    (b"limits 64 64 16", Ok("")),
+    (b"limits 0 1 1", Err(Trouble::LimitsAgain)),
+    (b"sync-tree", Ok("refused 2 0\n")),
 ];
 
-static CALLS_AND_POWER: [Step; 13] = [
-    Step {
-        line: b"limits 0 1 1",
-        text: b"",
-        trouble: None,
-    },
-    Step {
-        line: b"find 0 a",
-        text: b"refused 2 0\n",
-        trouble: None,
-    },
-    Step {
-        line: b"",
-        text: b"",
-        trouble: None,
-    },
-    Step {
-        line: b"bytes \\xff",
-        text: b"refused 1 0\n",
-        trouble: None,
-    },
-    Step {
-        line: b"bytes \\x0b\\x00",
-        text: b"refused 1 1\n",
-        trouble: None,
-    },
-    Step {
-        line: b"bytes \\x0b",
-        text: b"refused 2 0\n",
-        trouble: None,
-    },
-    Step {
-        line: b"find 0",
-        text: b"",
-        trouble: Some(Trouble::Column(7)),
-    },
-    Step {
-        line: b"sync-tree",
-        text: b"refused 2 0\n",
-        trouble: None,
-    },
-    Step {
-        line: b"power 0",
-        text: b"power\nfound\n",
-        trouble: None,
-    },
-    Step {
-        line: b"power 0 1=1",
-        text: b"power\nfound\n",
-        trouble: None,
-    },
-    Step {
-        line: b"power 1",
-        text: b"",
-        trouble: None,
-    },
-    Step {
-        line: b"power 0",
-        text: b"",
-        trouble: None,
-    },
-    Step {
-        line: b"sync-tree",
-        text: b"refused 2 0\n",
-        trouble: None,
-    },
+static CALLS_AND_POWER: [(&[u8], Result<&str, Trouble>); 13] = [
+    (b"limits 0 1 1", Ok("")),
+    (b"find 0 a", Ok("refused 2 0\n")),
+    (b"", Ok("")),
+    (b"bytes \\xff", Ok("refused 1 0\n")),
+    (b"bytes \\x0b\\x00", Ok("refused 1 1\n")),
+    (b"bytes \\x0b", Ok("refused 2 0\n")),
+    (b"find 0", Err(Trouble::Column(7))),
+    (b"sync-tree", Ok("refused 2 0\n")),
+    (b"power 0", Ok("power\nfound\n")),
+    (b"power 0 1=1", Ok("power\nfound\n")),
+    (b"power 1", Ok("")),
+    (b"power 0", Ok("")),
+    (b"sync-tree", Ok("refused 2 0\n")),
 ];
 
-fn plays(rt: &(impl Abort + AllocGlobal), steps: &[Step]) {
+fn plays(rt: &(impl Abort + AllocGlobal), steps: &[(&[u8], Result<&str, Trouble>)]) {
     let mut player = Player::new();
-    for step in steps {
-        match player.play(rt.alloc(), step.line) {
-            Ok(text) => {
-                assert_eq!(rt; step.trouble, None);
-                assert_eq!(rt; text.as_slice(), step.text);
-            }
-            Err(trouble) => assert_eq!(rt; Some(trouble), step.trouble),
+    for (line, printed) in steps {
+        match player.play(rt.alloc(), line) {
+            Ok(text) => assert_eq!(rt; Ok(text.as_str()), *printed),
+            Err(trouble) => assert_eq!(rt; Err(trouble), *printed),
         }
     }
 }

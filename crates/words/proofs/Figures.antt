@@ -55,9 +55,9 @@ decimal_value n h = digits_value-decimal own n h
 pub decimal_any : (n : ℕ) → n < 18446744073709551616 → 0 < length (decimal n)
 decimal_any n h = decimal_nonempty n h
 
-pub come_back : NumbersComeBack
+pub numbers_come_back : NumbersComeBack
 unfolding NumbersComeBack
-come_back n rest e d =
+numbers_come_back n rest e d =
     let h = ltb-true _ _ e in
     let v = decimal_value n h in
     digits_read (decimal n) rest (decimal_digits n h) (decimal_any n h) (omega arith) d ∙ ap (λ m. Ok (m, rest)) v

@@ -1,13 +1,9 @@
--- Appends: pieces put to the end of a list, one after another
--- Outcomes: what reading tells
 -- Numerals: the steps of reading a number
 -- Letters: the steps of reading a word
 -- Rows: the steps of printing a word
 -- Figures: numbers come back
 -- Spelled: words come back
 -- Printable: words are printable ASCII
-pub mod Appends
-pub mod Outcomes
 mod Numerals
 mod Letters
 mod Rows

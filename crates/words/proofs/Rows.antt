@@ -1,24 +1,15 @@
 -- PRINTING A WORD, step by step: what is printed so far and what is left to print.
-use Rattle.std.proofs.Common.{◌≡◌, ℕ, suc, ◌+◌, ◌-◌, ◌<◌, ◌≤◌, true, false, ◌&&◌, eqb, ltb, List, [], ◌∷◌, ◌++◌, length, get_or, take, drop, replicate, sym, refl, ap, ◌∙◌, append_assoc, arith}
-use Rattle.std.proofs.lemmas.List.{at_drop_more, take_all}
-use Rattle.std.proofs.lemmas.Bool.{cond-false, le-ltb}
-use Rattle.words.specs.Printed.{print_number, print_byte, print_each, print_row, print_on, print_word}
-
--- a list that was made longer by one byte so many times
-pub grown : (xs ys : List ℕ) (n len times b : ℕ) → ys ≡ take n xs ++ replicate (n - len) b → len ≡ length xs →
-    n ≡ len + times → ys ≡ xs ++ replicate times b
-grown xs ys n len times b e l m =
-    let h : length xs ≤ n = omega arith in
-    let k : n - len ≡ times = omega arith in
-    e ∙ ap (λ zs. zs ++ replicate (n - len) b) (take_all n xs h) ∙ ap (λ j. xs ++ replicate j b) k
+use Rattle.std.proofs.Common.{◌≡◌, ℕ, zero, suc, ◌+◌, ◌<◌, ◌≤◌, true, false, ◌&&◌, eqb, ltb, List, [], ◌∷◌, ◌++◌, length, get_or, drop, sym, ap, ◌∙◌, ⊎_elim, append-nil, append_assoc, add-one, arith}
+use Rattle.std.specs.List.{prefix_len}
+use Rattle.std.proofs.lemmas.Bool.{and_from, and_left, cases_Bool, eq-eqb, lt-ltb}
+use Rattle.words.specs.Printed.{print_byte, print_each, print_row, print_on, rows}
 
 -- one byte more of those that are printed one by one
-pub each_more : (b n k : ℕ) (out was : List ℕ) → k < n → out ≡ was ++ print_byte b →
-    out ++ print_each b (n - (k + 1)) ≡ was ++ print_each b (n - k)
-each_more b n k out was h e =
-    let m : n - k ≡ suc (n - (k + 1)) = omega arith in
-    ap (λ zs. zs ++ print_each b (n - (k + 1))) e ∙ append_assoc was (print_byte b) (print_each b (n - (k + 1)))
-    ∙ ap (λ j. was ++ print_each b j) (sym m)
+pub each_more : (b k : ℕ) → print_each b (k + 1) ≡ print_each b k ++ print_byte b
+each_more b zero = append-nil (print_byte b)
+each_more b (suc k) =
+    ap (print_each b) (add-one (suc k)) ∙ ap (λ t. print_byte b ++ t) (ap (print_each b) (sym (add-one k)) ∙ each_more b k)
+    ∙ sym (append_assoc (print_byte b) (print_each b k) (print_byte b))
 
 same : (b n x : ℕ) (xs : List ℕ) → (eqb x b && ltb n 18446744073709551615) ≡ true →
     print_on b n (x ∷ xs) ≡ print_on b (n + 1) xs
@@ -28,32 +19,36 @@ other : (b n x : ℕ) (xs : List ℕ) → (eqb x b && ltb n 18446744073709551615
     print_on b n (x ∷ xs) ≡ print_row b n ++ print_on x 1 xs
 other b n x xs e = rw e
 
-module _ (b n : ℕ) (xs : List ℕ) (i : ℕ) (h : i < length xs) (out all : List ℕ) where
-  -- the same byte once more
-  pub same_at : out ++ print_on b n (drop i xs) ≡ all → (eqb (get_or xs i 0) b && ltb n 18446744073709551615) ≡ true →
-      (later : List ℕ) (b' n' : ℕ) → later ≡ out → b' ≡ b → n' ≡ n + 1 →
-      later ++ print_on b' n' (drop (i + 1) xs) ≡ all
-  same_at inv e later b' n' p q r =
-      ap (λ ys. ys ++ print_on b' n' (drop (i + 1) xs)) p ∙ ap (λ k. out ++ print_on k n' (drop (i + 1) xs)) q
-      ∙ ap (λ k. out ++ print_on b k (drop (i + 1) xs)) r
-      ∙ sym (ap (λ ys. out ++ ys) (at_drop_more (print_on b n) xs i 0 h ∙ same b n _ _ e)) ∙ inv
+-- one byte more of a row
+taken : (b n k x : ℕ) (xs : List ℕ) →
+    print_row b (n + 1 + k) ++ rows (drop k xs) ≡ print_row b (n + (1 + k)) ++ rows (drop (1 + k) (x ∷ xs))
+taken b n k x xs =
+    let e : n + 1 + k ≡ n + (1 + k) = omega arith in
+    let f : suc k ≡ 1 + k = omega arith in
+    ap (λ j. print_row b j ++ rows (drop k xs)) e ∙ ap (λ j. print_row b (n + (1 + k)) ++ rows (drop j (x ∷ xs))) f
 
-  -- another byte: the row so far is printed
-  pub other_at : out ++ print_on b n (drop i xs) ≡ all → (eqb (get_or xs i 0) b && ltb n 18446744073709551615) ≡ false →
-      (later : List ℕ) (b' n' : ℕ) → later ≡ out ++ print_row b n → b' ≡ get_or xs i 0 → n' ≡ 1 →
-      later ++ print_on b' n' (drop (i + 1) xs) ≡ all
-  other_at inv d later b' n' p q r =
-      ap (λ ys. ys ++ print_on b' n' (drop (i + 1) xs)) p
-      ∙ ap (λ k. (out ++ print_row b n) ++ print_on k n' (drop (i + 1) xs)) q
-      ∙ ap (λ k. (out ++ print_row b n) ++ print_on (get_or xs i 0) k (drop (i + 1) xs)) r
-      ∙ append_assoc out (print_row b n) (print_on (get_or xs i 0) 1 (drop (i + 1) xs))
-      ∙ sym (ap (λ ys. out ++ ys) (at_drop_more (print_on b n) xs i 0 h ∙ other b n _ _ d)) ∙ inv
+nothing_more : (n : ℕ) → n ≡ n + 0
+nothing_more n = omega arith
 
--- bytes, from the first on
-pub from_first : (xs : List ℕ) → 0 < length xs → print_on (get_or xs 0 0) 1 (drop 1 xs) ≡ print_word xs
-from_first [] h = absurd (omega arith)
-from_first (x ∷ xs) h = refl
+-- a row goes as far as its byte does, and the rows of what is left follow
+row_on : (b n : ℕ) (xs : List ℕ) → n + length xs ≤ 18446744073709551615 →
+    print_on b n xs ≡ print_row b (n + prefix_len (λ x. eqb x b) xs) ++ rows (drop (prefix_len (λ x. eqb x b) xs) xs)
+row_on b n [] h = ap (print_row b) (nothing_more n) ∙ sym (append-nil (print_row b (n + 0)))
+row_on b n (x ∷ xs) h =
+    ⊎_elim
+    (λ e. same b n x xs (and_from _ _ e (lt-ltb _ _ (omega arith)))
+    ∙ row_on b (n + 1) xs (omega arith) ∙ rw e (taken b n (prefix_len (λ y. eqb y b) xs) x xs))
+    (λ e. other b n x xs (and_left _ _ e) ∙ rw e (ap (λ j. print_row b j ++ rows (x ∷ xs)) (nothing_more n)))
+    (cases_Bool (eqb x b))
 
--- a row that is printed as one byte and a number
-pub row_long : (b n : ℕ) → 4 ≤ n → print_row b n ≡ print_byte b ++ (92 ∷ 123 ∷ print_number n ++ (125 ∷ []))
-row_long b n h = cond-false _ _ _ (le-ltb n 4 h)
+-- the first row of some bytes
+pub row_first : (bs : List ℕ) (b n : ℕ) (left : List ℕ) → 0 < length bs → length bs < 18446744073709551616 →
+    b ≡ get_or bs 0 b → n ≡ prefix_len (λ x. eqb x b) bs → left ≡ drop n bs → rows bs ≡ print_row b n ++ rows left
+row_first [] b n left h l e m k = absurd (omega arith)
+row_first (x ∷ xs) b n left h l e m k =
+    let run : ℕ = prefix_len (λ y. eqb y b) xs in
+    let f : suc run ≡ 1 + run = omega arith in
+    let g : n ≡ 1 + run = m ∙ rw (eq-eqb x b (sym e)) in
+    ap (λ z. print_on z 1 xs) (sym e) ∙ row_on b 1 xs (omega arith)
+    ∙ ap (λ j. print_row b (1 + run) ++ rows (drop j (x ∷ xs))) f ∙ ap (λ j. print_row b j ++ rows (drop j (x ∷ xs))) (sym g)
+    ∙ ap (λ t. print_row b n ++ rows t) (sym k)

@@ -222,12 +222,12 @@ word_ends : (s : Reading) (out rest : List ℕ) → whole s ≡ true → ends re
 word_ends s out [] w e = closed s out [] w
 word_ends s out (b ∷ bs) w e = end s out b bs e ∙ closed s out (b ∷ bs) w
 
-pub come_back : WordsComeBack
+pub words_come_back : WordsComeBack
 unfolding WordsComeBack bytes
-come_back [] rest e d =
+words_come_back [] rest e d =
     quiet Begun EscapeFirst [] 92 (45 ∷ rest) refl refl refl ∙ quiet EscapeFirst Empty [] 45 rest refl refl refl
     ∙ word_ends Empty [] rest refl d
-come_back (b ∷ bs) rest e d =
+words_come_back (b ∷ bs) rest e d =
     let p = and_parts (ltb b 256) (bytes bs) e in
     let g = reads_on b 1 bs (ltb-true b 256 p.0) (omega arith) (omega arith) p.1 Begun [] rest begun in
     g.reads ∙ word_ends g.to (b ∷ bs) rest (is_whole g.to g.done) d

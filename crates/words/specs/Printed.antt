@@ -1,8 +1,7 @@
 -- WORDS AND NUMBERS AS THEY ARE PRINTED. A byte is printed as itself where it may stand for itself, else as `\xHH`; 4 or
 -- more equal bytes in a row are printed as one and `\{N}`, a row of 2^64 or more in parts; no bytes are `\-`. A number is
 -- printed in decimal with no zero in front. Definitions only.
-use Rattle.std.specs.Prelude.{◌≡◌, ℕ, zero, suc, ◌+◌, ◌/◌, ◌%◌, cond, ◌&&◌, List, [], ◌∷◌, ◌++◌, vec_items, decimal, Result, Vec, OnOk, ◌==◌, nat_lt}
-use Rattle.std.specs.declared.alloc.Global.{Global}
+use Rattle.std.specs.Prelude.{ℕ, zero, suc, ◌+◌, ◌/◌, ◌%◌, cond, ◌&&◌, List, [], ◌∷◌, ◌++◌, decimal, ◌==◌, nat_lt}
 use Rattle.words.specs.Words.{plain}
 
 abbrev pub print_number : ℕ → List ℕ
@@ -29,10 +28,11 @@ print_on b n [] = print_row b n
 print_on b n (x ∷ xs) =
     cond (x == b && nat_lt n 18446744073709551615) (print_on b (n + 1) xs) (print_row b n ++ print_on x 1 xs)
 
+-- bytes, row after row
+abbrev pub rows : List ℕ → List ℕ
+rows [] = []
+rows (b ∷ bs) = print_on b 1 bs
+
 abbrev pub print_word : List ℕ → List ℕ
 print_word [] = 92 ∷ 45 ∷ []
 print_word (b ∷ bs) = print_on b 1 bs
-
--- what printing leaves, unless memory ran out: the text after what was there
-abbrev pub Wrote : {X Y : Type 0} → Result X Y → Vec ℕ Global → Vec ℕ Global → List ℕ → Type 0
-Wrote r before later text = OnOk r (vec_items later ≡ vec_items before ++ text)

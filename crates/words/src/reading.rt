@@ -1,9 +1,10 @@
 // The states through which a word is read, byte by byte.
-ghost use Rattle.std.specs.Prelude.{◌≡◌, ◌<◌, IfSome};
-ghost use Rattle.words.specs.Words.{plain, hex_value, begin, escaped as escaped_of, next as next_of, added_byte, added_times, whole};
+ghost use Rattle.std.specs.Prelude.{◌≡◌, ◌<◌, ◌++◌, replicate, IfSome, OnOk};
+ghost use Rattle.words.specs.Words.{plain, hex_value, begin, escaped as escaped_of, next as next_of, added, whole};
 ghost use Rattle.words.specs.declared.reading.Reading.TheVariants.{Count};
 
 use crate::{is_digit, one_more};
+use std::alloc::AllocError;
 
 // What was read of a word so far.
 #[derive(Clone, Copy)]
@@ -36,7 +37,7 @@ pub enum Reading {
 pub(crate) fn is_plain(b: u8) -> bool
     ensures { result ≡ plain b }
 {
-    b'!' <= b && b <= b'~' && b != b'\\'
+    b.is_ascii_graphic() && b != b'\\'
 }
 
 fn hex_digit(b: u8) -> Option<u8>
@@ -55,19 +56,16 @@ fn first(b: u8, escape: Reading) -> Option<Reading>
     ensures { result ≡ begin b escape }
 {
     if b == b'\\' {
-        Some(escape)
-    } else if is_plain(b) {
-        Some(Reading::Byte(b))
-    } else {
-        None
+        return Some(escape);
     }
+    is_plain(b).then_some(Reading::Byte(b))
 }
 
 // After `\`, where it may only go on with `x`.
 fn escaped(b: u8) -> Option<Reading>
     ensures { result ≡ escaped_of b }
 {
-    if b == b'x' { Some(Reading::High) } else { None }
+    (b == b'x').then_some(Reading::High)
 }
 
 // A repetition's number goes on with a digit, or ends.
@@ -75,15 +73,17 @@ fn count_on(x: u8, n: u64, b: u8) -> Option<Reading>
     ensures { result ≡ next_of (Count x n) b }
 {
     if is_digit(b) {
-        return match one_more(n, b) {
-            Some(m) => Some(Reading::Count(x, m)),
-            None => None,
-        };
+        return one_more(n, b).map(|m| Reading::Count(x, m));
     }
-    if b == b'}' && n != 0 {
-        return Some(Reading::Repeated(x, n));
-    }
-    None
+    (b == b'}' && n != 0).then_some(Reading::Repeated(x, n))
+}
+
+// The bytes, and a byte so many times after them.
+fn put(bytes: &mut Vec<u8>, b: u8, times: usize) -> Result<(), AllocError>
+    ensures { OnOk result (bytes.new.items ≡ bytes.old.items ++ replicate times b) }
+{
+    bytes.reserve(times)?;
+    bytes.resize(bytes.len() + times, b)
 }
 
 impl Reading {
@@ -99,39 +99,33 @@ impl Reading {
             Reading::EscapeFirst if b == b'-' => Some(Reading::Empty),
             Reading::EscapeByte(x) if b == b'{' => Some(Reading::Open(x)),
             Reading::EscapeFirst | Reading::EscapeByte(_) | Reading::EscapeLast => escaped(b),
-            Reading::High => match hex_digit(b) {
-                Some(v) => Some(Reading::Low(v)),
-                None => None,
-            },
-            Reading::Low(h) => match hex_digit(b) {
-                Some(v) => Some(Reading::Byte(h % 16 * 16 + v)),
-                None => None,
-            },
+            Reading::High => hex_digit(b).map(|v| Reading::Low(v)),
+            Reading::Low(h) => hex_digit(b).map(|v| Reading::Byte(h % 16 * 16 + v)),
             Reading::Open(x) if is_digit(b) => Some(Reading::Count(x, u64::from(b - b'0'))),
             Reading::Open(_) => None,
             Reading::Count(x, n) => count_on(x, n, b),
         }
     }
 
-    // The byte that is added where the state is come to, and how many times.
-    pub(crate) fn added(self) -> (u8, u64)
-        ensures byte { result.0 ≡ added_byte self }
-        ensures times { result.1 ≡ added_times self }
+    // Puts the bytes that are added where the state is come to after those that are there.
+    pub(crate) fn add_to(self, bytes: &mut Vec<u8>) -> Result<(), AllocError>
+        ensures { OnOk result (bytes.new.items ≡ bytes.old.items ++ added self) }
     {
         match self {
-            Reading::Byte(x) => (x, 1),
-            Reading::Repeated(x, n) => (x, n.saturating_sub(1)),
-            _ => (0, 0),
+            Reading::Byte(x) => bytes.push(x)?,
+            Reading::Repeated(x, n) => put(bytes, x, n.saturating_sub(1) as usize)?,
+            _ => {}
         }
+        Ok(())
     }
 
     // May the word end here?
     pub(crate) fn is_whole(self) -> bool
         ensures { result ≡ whole self }
     {
-        match self {
-            Reading::Empty | Reading::Byte(_) | Reading::Repeated(_, _) => true,
-            _ => false,
-        }
+        matches!(
+            self,
+            Reading::Empty | Reading::Byte(_) | Reading::Repeated(_, _)
+        )
     }
 }

@@ -1,9 +1,9 @@
-use Rattle.std.proofs.Common.{◌≡◌, ◌-◌, ◌≤◌, length, drop}
+use Rattle.std.proofs.Common.{◌≡◌, ◌≤◌, length}
 use Rattle.words.specs.Numbers.{number_on, read_number}
 use Rattle.words.proofs.number.Given as goal
 
-abbrev pub invariant-loop-i : goal.invariant-loop-i
-invariant-loop-i l = (l.i ≤ length l.text) × (number_on l.n (drop l.i l.text) ≡ read_number l.text)
+abbrev pub invariant-loop-b : goal.invariant-loop-b
+invariant-loop-b l = (number_on l.n l.left ≡ read_number l.text) × (length l.left ≤ length l.text)
 
-abbrev pub decreases-loop-i : goal.decreases-loop-i
-decreases-loop-i l = length l.text - l.i
+abbrev pub decreases-loop-b : goal.decreases-loop-b
+decreases-loop-b l = length l.left

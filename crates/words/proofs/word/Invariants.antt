@@ -1,10 +1,9 @@
-use Rattle.std.proofs.Common.{◌≡◌, ◌-◌, ◌≤◌, length, drop, vec_items}
+use Rattle.std.proofs.Common.{◌≡◌, length, vec_items}
 use Rattle.words.specs.Words.{word_on, read_word}
 use Rattle.words.proofs.word.Given as goal
 
-abbrev pub invariant-loop-i : goal.invariant-loop-i
-invariant-loop-i l =
-    (l.i ≤ length l.text) × (word_on l.state (vec_items l.bytes) (drop l.i l.text) ≡ read_word l.text)
+abbrev pub invariant-loop-b : goal.invariant-loop-b
+invariant-loop-b l = word_on l.state (vec_items l.bytes) l.left ≡ read_word l.text
 
-abbrev pub decreases-loop-i : goal.decreases-loop-i
-decreases-loop-i l = length l.text - l.i
+abbrev pub decreases-loop-b : goal.decreases-loop-b
+decreases-loop-b l = length l.left

@@ -1,23 +1,18 @@
-use Rattle.std.proofs.Common.{arith}
-use Rattle.lines.proofs.Fronts.{alike, parted, first_ends, second_ends}
+use Rattle.std.proofs.Common.{ℕ, eqb, ◌∙◌, rules, tests}
+use Rattle.std.specs.List.{zip}
+use Rattle.std.proofs.lemmas.Iterator.{YieldsList-from_slice, YieldsList-from_zip}
+use Rattle.std.proofs.lemmas.Iterator.Consumers.{YieldsList-at, count_from_yields_List}
+use Rattle.std.proofs.lemmas.Iterator.Search.{YieldsList-from_take_while}
+use Rattle.std.proofs.lemmas.List.Folds.{length-prefix_len}
+use Rattle.lines.proofs.Fronts.{pairs_alike}
 use Rattle.lines.proofs.verb.common.Goals as goal
 
-pub loop-i-preserved : goal.loop-i-preserved
-loop-i-preserved c =
-    let e = alike c.args.a.now c.args.b.now c.loop-i.i c.loop-i-test.true c.if-i-b.true c.if-a-i.true in
-    (omega arith, omega arith)
-
-pub returns-else-a-i : goal.returns-else-a-i
-returns-else-a-i c =
-    let e = parted c.args.a.now c.args.b.now c.loop-i.i c.loop-i-test.true c.if-i-b.true c.if-a-i.false in
-    record { value = omega arith; within = omega arith }
-
-pub returns-else-i-b : goal.returns-else-i-b
-returns-else-i-b c =
-    let e = second_ends c.args.a.now c.args.b.now c.loop-i.i c.if-i-b.false in
-    record { value = omega arith; within = omega arith }
-
-pub returns-after-loop-i : goal.returns-after-loop-i
-returns-after-loop-i c =
-    let e = first_ends c.args.a.now c.args.b.now c.loop-i.i c.loop-i-test.false in
-    record { value = omega arith; within = omega arith }
+pub returns-clause-value : goal.returns-clause-value
+returns-clause-value c =
+    let a = c.args.a.now in
+    let b = c.args.b.now in
+    count_from_yields_List c.take_while.result c.count.result c.count.ensures.ran
+    (YieldsList-from_take_while _ (λ (p : ℕ × ℕ). eqb p.0 p.1)
+    (YieldsList-at c.take_while.ensures.source (YieldsList-from_zip (YieldsList-from_slice a (cc)) (YieldsList-from_slice b (cc))))
+    c.take_while.ensures.closure c.take_while.ensures.done (λ x r q k. search (rules, tests)))
+    ∙ length-prefix_len (λ (p : ℕ × ℕ). eqb p.0 p.1) (zip a b) ∙ pairs_alike a b

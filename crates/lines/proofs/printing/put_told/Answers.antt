@@ -1,8 +1,0 @@
-use Rattle.std.proofs.Common.{codes}
-use Rattle.words.proofs.Appends.{joins}
-use Rattle.lines.proofs.printing.put_told.Goals as goal
-
-pub returns : goal.returns
-returns c =
-    joins _ (codes "number") _ c.in_ok-extend_from_slice.ensures.items
-    c.in_ok-put_number.ensures
