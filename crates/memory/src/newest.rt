@@ -4,7 +4,7 @@ ghost use Rattle.std.specs.Prelude.{◌≡◌};
 ghost use Rattle.lookup.specs.Views.{words};
 ghost use Rattle.memory.specs.Lent.{tables_in};
 
-use lookup::view::Tree;
+use lookup::view::View;
 use rows::used::Used;
 
 // Nodes, four words each; sums, two for each node; entries, sixteen each; cells, one each.
@@ -19,10 +19,10 @@ pub struct Tables<'a> {
 
 impl Tables<'_> {
     // The same tables, to be read, where so much of them is in use.
-    pub fn tree(&self, used: Used) -> Tree<'_>
+    pub fn view(&self, used: Used) -> View<'_>
         ensures { words result ≡ tables_in self.now used }
     {
-        Tree {
+        View {
             nodes: self.nodes,
             sums: self.sums,
             entries: self.entries,
