@@ -1,16 +1,26 @@
 -- An item's words: how many they are, and that its parts, put one after another, are all of them.
-use Rattle.std.proofs.Common.{◌≡◌, ℕ, zero, suc, ◌+◌, ◌-◌, ◌<◌, ◌≤◌, Bool, List, [], ◌∷◌, ◌++◌, length, get_or, take, drop, set, sym, refl, ap, ◌∙◌, append_assoc, append-nil, arith, length-append, take_at, drop_at}
+use Rattle.std.proofs.Common.{◌≡◌, ℕ, zero, suc, ◌+◌, ◌-◌, ◌<◌, ◌≤◌, Bool, true, false, List, [], ◌∷◌, ◌++◌, length, get_or, take, drop, set, Some, refl, ap, append-nil, arith, length-append, take_at, drop_at}
 use borrow.Rule.Slice.PartMut.{put_mid}
-use Rattle.std.proofs.lemmas.List.{drop_all, set_at}
+use mir.Val.{bool_byte}
+use Rattle.std.proofs.lemmas.List.{drop_all}
 use Rattle.blocks.specs.Words.{le, chunks}
 use Rattle.model.specs.Calls.{Call, find, make_file, make_dir, remove, rename, list, size, read, write, resize, sync_file, sync_tree}
 use Rattle.model.specs.Calls.{garbled}
+use Rattle.model.specs.Calls.{call_number}
 use Rattle.model.specs.Tree.{Name}
-use Rattle.machine.specs.Journal.{name_size, name_words, field_words, item_words}
+use Rattle.calls.specs.declared.Call.{Call as CodeCall}
+use Rattle.calls.specs.declared.Call.TheVariants as code
+use Rattle.calls.specs.declared.kind.Kind.{Kind}
+use Rattle.calls.specs.Kinds.{kind_number, kind_of}
+use Rattle.calls.specs.Meaning.{call_of}
+use Rattle.machine.specs.Journal.{bit_word, name_size, name_words, field_words, item_words}
 use Rattle.machine.specs.Tables.{name_key}
 use Rattle.machine.proofs.JournalWords.{length-name}
 use Rattle.tables.specs.Append.{item_added}
 use Rattle.journal.specs.Changing.{item_size}
+
+number_of : {j k : Kind} → Some j ≡ Some k → kind_number k ≡ kind_number j
+number_of {j = j} {k = k} e = let f : k ≡ j = cc in ap kind_number f
 
 -- HOW MANY
 pub length_item : (b : Bool) (c : Call) → length (item_words (record { first = b; call = c })) ≡ item_size c
@@ -54,18 +64,37 @@ put_rest front rest new at k lf lr =
     let e : new ++ [] ≡ new = append-nil new in
     cc
 
--- a word, and then the last
-pub put_two : (front rest : List ℕ) (new : List ℕ) (at k x : ℕ) → length front ≡ at → length rest ≤ k + 1 → 0 < length rest →
-    put_mid (at + 1) k (set (front ++ rest) at x) new ≡ front ++ (x ∷ new)
-put_two front [] new at k x lf lr some = absurd (omega arith)
-put_two front (y ∷ rest) new at k x lf lr some =
-    let s : set (front ++ (y ∷ rest)) at x ≡ front ++ (x ∷ rest) = set_at front y rest x at lf in
-    let a : (front ++ (x ∷ [])) ++ rest ≡ front ++ (x ∷ rest) = append_assoc front (x ∷ []) rest in
-    let b : (front ++ (x ∷ [])) ++ new ≡ front ++ (x ∷ new) = append_assoc front (x ∷ []) new in
-    let l : length (front ++ (x ∷ [])) ≡ at + 1 = length-append front (x ∷ []) ∙ omega arith in
-    let p : put_mid (at + 1) k ((front ++ (x ∷ [])) ++ rest) new ≡ (front ++ (x ∷ [])) ++ new =
-    put_rest (front ++ (x ∷ [])) rest new (at + 1) k l (omega arith) in
-    ap (λ ws. put_mid (at + 1) k ws new) (s ∙ sym a) ∙ (p ∙ b)
+-- one word or two in front
+pub set_one : (ws : List ℕ) (x : ℕ) → 0 < length ws → set ws 0 x ≡ (x ∷ []) ++ drop 1 ws
+set_one [] x h = absurd (omega arith)
+set_one (w ∷ ws) x h = refl
+
+pub set_two : (ws : List ℕ) (x y : ℕ) → 1 < length ws → set (set ws 0 x) 1 y ≡ (x ∷ y ∷ []) ++ drop 2 ws
+set_two [] x y h = absurd (omega arith)
+set_two (v ∷ []) x y h = absurd (omega arith)
+set_two (v ∷ w ∷ ws) x y h = refl
+
+-- THE KIND is the first word
+pub kind_word : (c : CodeCall) (k : Kind) → kind_of c ≡ Some k → kind_number k ≡ call_number (call_of c)
+unfolding call_number
+kind_word (code.Find d n) k e = number_of e
+kind_word (code.MakeFile d n) k e = number_of e
+kind_word (code.MakeDir d n) k e = number_of e
+kind_word (code.Remove d n) k e = number_of e
+kind_word (code.Rename d n g m) k e = number_of e
+kind_word (code.List d j) k e = number_of e
+kind_word (code.Size i) k e = number_of e
+kind_word (code.Read i o) k e = number_of e
+kind_word (code.Write i o x) k e = number_of e
+kind_word (code.Resize i n) k e = number_of e
+kind_word (code.SyncFile i) k e = number_of e
+kind_word code.SyncTree k e = number_of e
+kind_word (code.Garbled n) k e = absurd (cc)
+
+-- THE FLAG as a word
+pub flag_word : (b : Bool) → bool_byte b ≡ bit_word b
+flag_word true = refl
+flag_word false = refl
 
 -- THE ITEM, where its words are counted
 pub item_put : (ws new item : List ℕ) (n : ℕ) → n ≡ length item → new ≡ item →

@@ -5,7 +5,6 @@
 ghost use Rattle.journal.specs.Laws.{ItemBack};
 
 pub mod items;
-mod kinds;
 pub mod names;
 pub mod read;
 pub mod write;

@@ -1,30 +1,22 @@
--- Too few words, something after the name's end, or a name.
-use Rattle.std.proofs.Common.{◌<◌, get_or, sym, arith}
-use Rattle.journal.proofs.NameWords.{name_cut, name_unclean, name_clean}
+-- The name's last word has zeros after the name's end, or something else.
+use Rattle.std.proofs.Common.{ℕ, ◌+◌, ◌/◌, List, sym, ◌∙◌, arith}
+use Rattle.std.proofs.lemmas.Slice.{between_from_start}
+use Rattle.journal.proofs.NameWords.{name_unclean, name_clean}
 use Rattle.journal.proofs.read.read_name.Goals as goal
-use Rattle.journal.proofs.read.read_name.Goals.{then-words-size-via-then-words-size}
-use Rattle.journal.proofs.read.read_name.Goals.{then-words-size-via-else-words-size+then-not-ends_in_zeros}
 
-pub returns-then-words-size : goal.returns-then-words-size
-returns-then-words-size c =
-    let ws = c.args.words.now in
-    let some : 0 < get_or ws 0 0 = omega arith in
-    record {
-      name = elim c.then-words-size.branch [
-        | then-words-size-via-then-words-size w ↦ name_cut ws some c.if-words-gt64.false w.if-words-size.true
-        | then-words-size-via-else-words-size+then-not-ends_in_zeros w ↦
-            name_unclean ws some c.if-words-gt64.false w.if-words-size.false (sym w.if-not-ends_in_zeros.ensures)
-      ];
-      size = tt;
-    }
+pub returns-then-not-ends_in_zeros-clause-name : goal.returns-then-not-ends_in_zeros-clause-name
+returns-then-not-ends_in_zeros-clause-name c =
+    let rest : List ℕ = c.in_ok-first.rest.now in
+    let n : ℕ = c.in_ok-first.first.now in
+    let g = c.in_ok-body.ensures.lookup in
+    name_unclean _ rest c.in_ok-body.body.now n _ c.in_ok-first.ensures.cases.0 (g.0.2 ∙ between_from_start rest ((n + 7) / 8)) g.0.1
+    (omega arith) (omega arith) c.in_ok-last.ensures.value (sym c.if-not-ends_in_zeros.ensures)
 
-pub returns : goal.returns
-returns c =
-    let ws = c.args.words.now in
-    let some : 0 < get_or ws 0 0 = omega arith in
-    record {
-      name =
-          name_clean ws some c.if-words-gt64.false c.if-words-size.false _ (sym c.if-not-ends_in_zeros.ensures)
-          c.bytes_of-bytes.ensures;
-      size = (omega arith, c.if-words-size.false);
-    }
+pub returns-clause-name : goal.returns-clause-name
+returns-clause-name c =
+    let rest : List ℕ = c.in_ok-first.rest.now in
+    let n : ℕ = c.in_ok-first.first.now in
+    let g = c.in_ok-body.ensures.lookup in
+    name_clean _ rest c.in_ok-body.body.now n _ c.in_ok-first.ensures.cases.0 (g.0.2 ∙ between_from_start rest ((n + 7) / 8)) g.0.1
+    (omega arith) (omega arith) c.in_ok-last.ensures.value c.bytes_of-bytes.result (sym c.if-not-ends_in_zeros.ensures)
+    c.bytes_of-bytes.ensures

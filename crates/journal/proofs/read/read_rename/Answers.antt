@@ -1,43 +1,25 @@
--- No first name, nothing after it, no second name, or both.
-use Rattle.std.proofs.Common.{ℕ, ◌+◌, List, length, get_or, ap, ◌∙◌, arith, length-drop}
+-- No first place, no second, or both.
+use Rattle.std.proofs.Common.{◌≡◌, ℕ, ◌-◌, List, length, take, drop}
 use Rattle.std.proofs.lemmas.List.{take_rest}
-use Rattle.machine.specs.Journal.{name_from}
-use Rattle.journal.proofs.ItemsRead.{rename_none, rename_half, rename_cut, rename_some}
+use Rattle.journal.proofs.ItemsRead.{rename_none, rename_half, rename_both}
 use Rattle.journal.proofs.read.read_rename.Goals as goal
 
-pub returns-in_default : goal.returns-in_default
-returns-in_default c =
-    let ws : List ℕ = c.args.words.now in
-    record {
-      item = rename_none c.args.first (get_or ws 2 0) ws (c.in_default.ensures.name ∙ ap name_from (take_rest ws 3));
-      size = tt;
-    }
+pub returns-in_err-dir-clause-change : goal.returns-in_err-dir-clause-change
+returns-in_err-dir-clause-change c = λ b. rw c.from_residual.ensures (rename_none b c.args.fields.now c.in_err-dir.ensures)
 
-pub returns-then-words-at : goal.returns-then-words-at
-returns-then-words-at c =
-    let ws : List ℕ = c.args.words.now in
-    record {
-      item = rename_cut c.args.first (get_or ws 2 0) ws _ c.in-Some.front.1
-          (c.in-Some.ensures.name ∙ ap name_from (take_rest ws 3)) c.if-words-at.true;
-      size = tt;
-    }
+pub returns-in_err-new_dir-clause-change : goal.returns-in_err-new_dir-clause-change
+returns-in_err-new_dir-clause-change c = λ b.
+    let fs : List ℕ = c.args.fields.now in
+    let f = c.in_ok-dir.ensures in
+    let rest : take (length fs - c.in_ok-dir.size) (drop c.in_ok-dir.size fs) ≡ drop c.in_ok-dir.size fs = take_rest fs c.in_ok-dir.size in
+    rw c.from_residual-in_err-new_dir.ensures
+    (rename_half b fs c.in_ok-dir.dir _ c.in_ok-dir.size f.0 f.1 f.2 (rw rest at c.in_err-new_dir.ensures))
 
-pub returns-in_default-read_name : goal.returns-in_default-read_name
-returns-in_default-read_name c =
-    let ws : List ℕ = c.args.words.now in
-    let s : ℕ = c.in-Some.front.1 in
-    record {
-      item = rename_half c.args.first (get_or ws 2 0) ws _ s (c.in-Some.ensures.name ∙ ap name_from (take_rest ws 3))
-          (c.in_default-read_name.ensures.name ∙ ap name_from (take_rest ws (3 + s + 1)));
-      size = tt;
-    }
-
-pub returns : goal.returns
-returns c =
-    let ws : List ℕ = c.args.words.now in
-    let s : ℕ = c.in-Some.front.1 in
-    record {
-      item = rename_some c.args.first (get_or ws 2 0) ws _ s (c.in-Some.ensures.name ∙ ap name_from (take_rest ws 3))
-          _ c.in-Some-read_name.back.1 (c.in-Some-read_name.ensures.name ∙ ap name_from (take_rest ws (3 + s + 1)));
-      size = (omega arith, omega (arith, c.in-Some-read_name.ensures.size.1, ap length (take_rest ws (3 + s + 1)), length-drop (3 + s + 1) ws));
-    }
+pub returns-clause-change : goal.returns-clause-change
+returns-clause-change c = λ b.
+    let fs : List ℕ = c.args.fields.now in
+    let f = c.in_ok-dir.ensures in
+    let g = c.in_ok-new_dir.ensures in
+    let rest : take (length fs - c.in_ok-dir.size) (drop c.in_ok-dir.size fs) ≡ drop c.in_ok-dir.size fs = take_rest fs c.in_ok-dir.size in
+    rename_both b fs c.in_ok-dir.dir _ c.in_ok-dir.size f.0 f.1 f.2 c.in_ok-new_dir.new_dir _ c.in_ok-new_dir.new_size
+    (rw rest at g.0) (rw rest at g.1) g.2

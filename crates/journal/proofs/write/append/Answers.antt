@@ -5,8 +5,8 @@ use Rattle.calls.specs.Meaning.{call_of}
 use Rattle.journal.proofs.ItemWords.{length_item, item_put}
 use Rattle.journal.proofs.write.append.Goals as goal
 
-pub returns-then-used-size : goal.returns-then-used-size
-returns-then-used-size c =
+pub returns-then-used-size-gt-ROOM : goal.returns-then-used-size-gt-ROOM
+returns-then-used-size-gt-ROOM c =
     let l = length_item c.args.first (call_of c.args.call) in
     record { fits = sym (lt-leb _ 496 (omega arith)); words = refl }
 

@@ -1,37 +1,17 @@
--- In each case the call is what was matched, and its words are those that were put.
-use Rattle.std.proofs.Common.{◌≡◌, ℕ, Bool, List, [], ◌∷◌, sym, ap, ◌∙◌, subst}
-use Rattle.model.specs.Calls.{call_number}
-use Rattle.calls.specs.declared.Call.{Call as CodeCall}
-use Rattle.machine.specs.Journal.{field_words, item_words}
-use Rattle.journal.specs.Items.{item_of}
+-- The kind, the flag, and the fields.
+use Rattle.std.proofs.Common.{◌≡◌, [], ◌∷◌, drop, refl, sym, ◌∙◌, arith, length-drop}
+use Rattle.calls.specs.Meaning.{call_of}
+use Rattle.machine.specs.Journal.{bit_word}
+use Rattle.journal.proofs.ItemWords.{length_item, put_rest, set_two, kind_word, flag_word}
 use Rattle.journal.proofs.write.put_item.Goals as goal
 
-abbrev Put : List ℕ → Bool → CodeCall → Type 0
-Put ws first call = ws ≡ item_words (item_of first call)
-
-pub returns-in-MakeFile : goal.returns-in-MakeFile
-unfolding call_number field_words
-returns-in-MakeFile c =
-    subst (Put c.put_named.new.out c.args.first) (sym c.in-MakeFile.is) c.put_named.ensures
-
-pub returns-in-MakeDir : goal.returns-in-MakeDir
-unfolding call_number field_words
-returns-in-MakeDir c =
-    subst (Put c.put_named-in-MakeDir.new.out c.args.first) (sym c.in-MakeDir.is) c.put_named-in-MakeDir.ensures
-
-pub returns-in-Remove : goal.returns-in-Remove
-unfolding call_number field_words
-returns-in-Remove c =
-    subst (Put c.put_named-in-Remove.new.out c.args.first) (sym c.in-Remove.is) c.put_named-in-Remove.ensures
-
-pub returns-in-Rename : goal.returns-in-Rename
-unfolding call_number field_words
-returns-in-Rename c =
-    subst (Put c.put_rename.new.out c.args.first) (sym c.in-Rename.is) c.put_rename.ensures
-
-pub returns-in-Resize : goal.returns-in-Resize
-unfolding call_number field_words
-returns-in-Resize c =
-    subst (Put c.copy_from_slice.new.self c.args.first) (sym c.in-Resize.is)
-    (c.copy_from_slice.ensures.after
-    ∙ ap (λ b. 9 ∷ b ∷ c.in-Resize.file ∷ c.in-Resize.places ∷ []) c.bit.ensures)
+pub returns : goal.returns
+returns c =
+    let k = kind_word c.args.call _ (sym c.kind.ensures ∙ c.unwrap-kind.ensures) in
+    let m = length_item c.args.first (call_of c.args.call) in
+    let s = set_two c.args.out.now c.from-2.result c.from-3.result (omega arith) in
+    let kind = c.from-2.ensures ∙ (c.from.ensures ∙ k) in
+    let flag : c.from-3.result ≡ bit_word c.args.first = c.from-3.ensures ∙ flag_word c.args.first in
+    rw s
+    (put_rest (c.from-2.result ∷ c.from-3.result ∷ []) (drop 2 c.args.out.now) c.put_fields.new.out 2 _ refl (omega (arith, length-drop 2 c.args.out.now))
+    ∙ rw (kind, flag, c.put_fields.ensures) refl)
