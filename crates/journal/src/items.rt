@@ -9,7 +9,8 @@ use crate::names::Name;
 use calls::Call;
 use calls::kind::Kind;
 
-// A call that changes the tree. `calls::Call` lends its names, and these have nowhere to be lent from.
+// A call that changes the tree, by value.
+// kept: `calls::Call` lends its names, and a journal's words have none to lend
 #[derive(Clone, Copy, Debug, PartialEq, Eq)]
 pub enum Change {
     // directory, name

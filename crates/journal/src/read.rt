@@ -26,7 +26,7 @@ fn read_name(words: &[u64]) -> Option<(Name, usize)>
         return None;
     }
     let len = *first as usize;
-    let body = rest.get(..(len + 7) / 8)?;
+    let body = rest.get(..len.div_ceil(8))?;
     if !ends_in_zeros(len, *body.last()?) {
         return None;
     }

@@ -40,10 +40,11 @@ fn name_size(name: &[u8]) -> usize
     requires { length name.now ≤ 64 }
     ensures { result ≡ 1 + name_size (length name.now) }
 {
-    1 + (name.len() + 7) / 8
+    1 + name.len().div_ceil(8)
 }
 
 // How many words the item of a changing call takes.
+// kept: an enum of the changing calls alone would be `Call` again, and the one call that is appended would be turned into it first
 fn item_size(call: Call<'_>) -> usize
     requires { Changing (call_of call) }
     ensures { result ≡ item_size (call_of call.entry) }

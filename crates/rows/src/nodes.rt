@@ -1,5 +1,6 @@
 // The table of nodes, four words each, with that of sums: a node by its id, and what the two say of it.
-ghost use Rattle.std.specs.Prelude.{◌≡◌, ◌+◌, ◌*◌, ◌≤◌, length};
+ghost use Rattle.std.specs.Prelude.{◌≡◌, ◌+◌, ◌*◌, ◌≤◌, ◌++◌, length, codes, Some};
+ghost use Rattle.std.specs.Fmt.{decimal};
 ghost use Rattle.tables.specs.Lookup.{row_kind, row_of, Ascends, place_at};
 ghost use Rattle.rows.specs.Kinds.{kind_number, KindRead};
 ghost use Rattle.rows.specs.Places.{place_in};
@@ -46,6 +47,8 @@ impl TryFrom<u64> for Kind {
 }
 
 impl fmt::Display for UnknownKind {
+    ghost output = { λ e. Some (codes "no kind of nodes has the number " ++ decimal e.0) };
+
     fn fmt<W: fmt::Write>(&self, f: &mut fmt::Formatter<W>) -> fmt::Result {
         write!(f, "no kind of nodes has the number {}", self.0)
     }

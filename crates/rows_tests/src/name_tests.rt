@@ -40,7 +40,7 @@ fn there_and_back(rt: &impl Abort, name: &[u8])
     assert_eq!(rt; entry_id(&row, 0), 7);
     let entry = read_entry(&row, 0);
     assert_eq!(rt; entry.id, 7);
-    assert!(rt; entry.name() == name);
+    assert_eq!(rt; entry.name(), name);
 }
 
 #[test]
