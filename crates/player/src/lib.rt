@@ -1,10 +1,11 @@
 // Plays a script line by line: takes a line and gives the text to print, or says what is wrong with it.
 #![tactic(auto)]
 
-ghost use Rattle.std.specs.Prelude.{◌≡◌, ◌==◌, ◌<◌, false, [], ◌∷◌, ◌++◌, length, position, is_ok, if◌then◌else◌, None as Nil, Ok, nat_eq};
+ghost use Rattle.std.specs.Prelude.{◌≡◌, ◌==◌, ◌<◌, false, [], ◌∷◌, ◌++◌, length, position, is_ok, if◌then◌else◌, None as Nil, Some, Ok, nat_eq};
 ghost use Rattle.calls.specs.Meaning.{call_of, answer_of};
 ghost use Rattle.codec.specs.CallBytes.{read_call};
 ghost use Rattle.lines.specs.Printing.{print_answer};
+ghost use Rattle.player.specs.Messages.{trouble_text};
 ghost use Rattle.player.specs.Played.{stage_answer, AsTheModel, allowed, prints_first, printed, played};
 ghost use Rattle.player.specs.Played.{limits_after, waits_if, power_text, Stands, StandsFor, Says, unreadable};
 ghost use Rattle.player.specs.Split.{first_line, after_line};
@@ -35,6 +36,8 @@ pub enum Trouble {
 }
 
 impl fmt::Display for Trouble {
+    ghost output = { λ trouble. Some (trouble_text trouble) };
+
     fn fmt<W: fmt::Write>(&self, f: &mut fmt::Formatter<W>) -> fmt::Result {
         match self {
             Trouble::Column(column) => write!(f, "{}", Unreadable::Column(*column)),

@@ -1,9 +1,10 @@
 // Lines of a script.
-ghost use Rattle.std.specs.Prelude.{◌≡◌};
+ghost use Rattle.std.specs.Prelude.{◌≡◌, Some};
 ghost use Rattle.calls.specs.Meaning.{call_of};
 ghost use Rattle.script.specs.Lines.{passed as passed_over, read_rename, read_write, read_asked};
 ghost use Rattle.script.specs.Lines.{read_limits, read_power, read_fields, read_whole, read_line};
 ghost use Rattle.script.specs.Meaning.{asked_of, line_of, LineTold};
+ghost use Rattle.script.specs.Messages.{unreadable_text};
 ghost use Rattle.words.specs.Outcome.{Told};
 
 use crate::fields::{
@@ -58,6 +59,8 @@ pub enum Unreadable {
 }
 
 impl fmt::Display for Unreadable {
+    ghost output = { λ unreadable. Some (unreadable_text unreadable) };
+
     fn fmt<W: fmt::Write>(&self, f: &mut fmt::Formatter<W>) -> fmt::Result {
         match self {
             Unreadable::Column(column) => write!(

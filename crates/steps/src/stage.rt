@@ -1,7 +1,7 @@
 // Which calls can be done.
 ghost use Rattle.std.specs.Prelude.{◌≡◌};
 ghost use Rattle.calls.specs.Kinds.{kind_number};
-ghost use Rattle.steps.specs.Stages.{stage_calls};
+ghost use Rattle.steps.specs.Stages.{stage_calls, OthersPass};
 
 use calls::kind::Kind;
 
@@ -23,3 +23,8 @@ impl Stage {
         }
     }
 }
+
+// What a stage says of numbers that no call has.
+pub fn others_pass()
+    ensures { OthersPass }
+{}

@@ -3,3 +3,4 @@ pub mod Numbers
 pub mod Words
 pub mod Printed
 pub mod Law
+pub mod Messages

@@ -2,8 +2,9 @@
 // specs/Words.antt, Numbers.antt and Printed.antt say what they are.
 #![tactic(auto)]
 
-ghost use Rattle.std.specs.Prelude.{◌≡◌, ◌≤◌, length, drop, IfOk};
+ghost use Rattle.std.specs.Prelude.{◌≡◌, ◌≤◌, length, drop, IfOk, Some};
 ghost use Rattle.words.specs.Law.{WordsComeBack, NumbersComeBack, WordsArePrintable};
+ghost use Rattle.words.specs.Messages.{unread_text};
 ghost use Rattle.words.specs.Numbers.{digit, more, read_number};
 ghost use Rattle.words.specs.Outcome.{Told};
 ghost use Rattle.words.specs.Words.{read_word};
@@ -27,6 +28,8 @@ pub enum Unread {
 }
 
 impl fmt::Display for Unread {
+    ghost output = { λ unread. Some (unread_text unread) };
+
     fn fmt<W: fmt::Write>(&self, f: &mut fmt::Formatter<W>) -> fmt::Result {
         match self {
             Unread::Left(left) => write!(f, "not read on, with {} bytes left", *left),
