@@ -32,20 +32,23 @@ LINES = [
 
 
 def functions(text):
-    """Name and body of each function."""
-    for m in re.finditer(r"\bfn (\w+)", text):
-        start = text.find("\n{", m.start())
-        inner = text.find("\n    {", m.start())
-        if inner != -1 and (start == -1 or inner < start):
-            start, close = inner, "\n    }"
+    """Name and body of each function that has one."""
+    lines = text.split("\n")
+    for at, line in enumerate(lines):
+        m = re.match(r"( *)(?:pub(?:\(crate\))? )?(?:const )?fn (\w+)", line)
+        if not m:
+            continue
+        indent, name = m.groups()
+        start = at
+        while lines[start] != indent + "{" and not lines[start].endswith(" {") and start - at < 40:
+            if re.match(indent + r"\{.*\}$|.*;$", lines[start]):
+                break
+            start += 1
         else:
-            close = "\n}"
-        if start == -1:
-            continue
-        if text[start:].lstrip().startswith("{}"):
-            continue
-        end = text.find(close, start + 2)
-        yield m.group(1), text[start:end]
+            end = start + 1
+            while end < len(lines) and lines[end] != indent + "}":
+                end += 1
+            yield name, "\n".join(lines[start + 1 : end])
 
 
 def skeleton(body):
@@ -61,7 +64,7 @@ def twins():
     for path in SOURCES:
         for name, body in functions(path.read_text()):
             bones = skeleton(body)
-            if len(bones) >= 24:
+            if len(bones) >= 20:
                 groups[bones].append(f"{path.relative_to(TREE)}: {name}")
     return [g for g in groups.values() if len(g) > 1]
 

@@ -28,6 +28,7 @@ impl Moment {
     }
 }
 
+// kept: the steps differ in their data alone, but each shows a call as a caller writes it
 // The first directory gets a file, "a".
 pub fn make_file() -> Moment {
     let root = Place {

@@ -16,6 +16,7 @@ impl Tree<'_> {
         if outer == inner {
             return true;
         }
+        // kept: the answer is a bool, so that there is no directory is no error to hand on
         let Some(place) = self.directory(outer) else {
             return false;
         };

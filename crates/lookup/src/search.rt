@@ -40,6 +40,7 @@ impl Tree<'_> {
     }
 
     // Where a file stands, whose cells are in the table.
+    // kept: beside `directory`, since the two promise different things, and a line with the kind is all that they share
     pub fn file(&self, id: u64) -> Option<Place>
         ensures found { (l : refusals.Limits) (t : model.Tree) → Sound l (words self.now.view) t → FileFound t id result }
         ensures inside { IfSome result (λ p. p.cells + p.count ≤ length self.now.view.cells.now) }

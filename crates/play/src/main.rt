@@ -67,6 +67,7 @@ fn play_all(rt: &HostRuntime, name: String, text: &[u8]) -> Result<(), Stopped> 
 
 fn play_file(rt: &HostRuntime) -> Result<(), Stopped> {
     let name = script_name(rt)?;
+    // kept: the name goes into the error or on to the lines, so no closure can take it
     match fs::read(rt, name.as_str()) {
         Ok(text) => play_all(rt, name, text.as_slice()),
         Err(error) => Err(Stopped::File(name, error)),
