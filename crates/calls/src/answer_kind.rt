@@ -17,6 +17,7 @@ pub enum AnswerKind {
 }
 
 // A number that no answer has.
+// kept: as `UnknownRefusal`, it says what has no such number
 #[derive(Clone, Copy, Debug, PartialEq, Eq)]
 pub struct UnknownAnswerKind(pub u8);
 

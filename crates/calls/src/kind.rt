@@ -24,6 +24,7 @@ pub enum Kind {
 }
 
 // A number that no call has.
+// kept: as `UnknownRefusal`, it says what has no such number
 #[derive(Clone, Copy, Debug, PartialEq, Eq)]
 pub struct UnknownKind(pub u8);
 

@@ -87,6 +87,7 @@ pub struct Limits {
 }
 
 // A number that no refusal has.
+// kept: an error of its own beside those of the other enums by number, since each says what it is that has no such number
 #[derive(Clone, Copy, Debug, PartialEq, Eq)]
 pub struct UnknownRefusal(pub u8);
 

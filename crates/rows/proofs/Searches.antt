@@ -2,6 +2,7 @@
 use Rattle.std.proofs.Common.{◌≡◌, ℕ, zero, suc, ◌+◌, ◌<◌, ◌≤◌, Bool, true, false, eqb, ltb, List, Some, None, sym, refl, ap, ◌∙◌, inl, inr, arith}
 use Rattle.std.proofs.lemmas.Bool.{cases_lt, eq-eqb, ne_eqb, lt-ltb, le-ltb}
 use Rattle.tables.specs.Lookup.{first_row, row_id, row_of, Ascends}
+use Rattle.std.specs.Bool.{then_some}
 use Rattle.rows.specs.Found.{found}
 
 -- no row passes before the j-th, and that one does; and none passes at all
@@ -57,3 +58,13 @@ found_at n k j e l = let t : ltb j n ≡ true = lt-ltb j n l in rw (e, t) refl
 
 pub found_none : (n k : ℕ) → k ≡ n → found n k ≡ None
 found_none n k e = let t : ltb n n ≡ false = le-ltb n n (omega arith) in rw (e, t) refl
+
+-- what is told of the row where the halves meet
+pub row_told : (id n j : ℕ) (ns : List ℕ) (b : Bool) → Ascends n ns → ((i : ℕ) → i < j → row_id ns i < id) →
+    ((i : ℕ) → j ≤ i → i < n → id ≤ row_id ns i) → (b ≡ true → (j < n) × (row_id ns j ≡ id)) →
+    (b ≡ false → j < n → row_id ns j ≡ id → ⊥) → then_some b j ≡ found n (row_of id n ns)
+row_told id n j ns true up less more here other =
+    let h = here refl in
+    sym (found_at n (row_of id n ns) j (row_found id n j ns h.0 less h.1) h.0)
+row_told id n j ns false up less more here other =
+    sym (found_none n (row_of id n ns) (row_none id n j ns up less more (other refl)))

@@ -17,6 +17,7 @@ pub enum Kind {
 }
 
 // A word of the table that is no node's kind.
+// kept: a word, where the kinds of calls and answers have a byte, and it says what has no such number
 #[derive(Clone, Copy, Debug, PartialEq, Eq)]
 pub struct UnknownKind(pub u64);
 
@@ -99,9 +100,5 @@ pub fn find_row(nodes: &[u64], rows: usize, id: u64) -> Option<usize>
             high = mid;
         }
     }
-    if low < rows && nodes[4 * low] == id {
-        Some(low)
-    } else {
-        None
-    }
+    (low < rows && nodes[4 * low] == id).then_some(low)
 }

@@ -69,6 +69,7 @@ pub(crate) fn one_named(heap: Global, text: &[u8]) -> Result<(u64, Vec<u8>), Unr
 }
 
 // One number, and the end.
+// kept: the next three differ in the fields before the end, and one form of them would take what each field means as a parameter
 pub(crate) fn one_number(text: &[u8]) -> Result<u64, Unread>
     ensures { Told (λ n. n) result (one_number text.now) }
 {
