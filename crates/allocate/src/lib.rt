@@ -60,6 +60,7 @@ pub fn release(tables: &Tables<'_>, status: &mut Status<'_>, at: usize, count: u
 }
 
 // Copies a lent map over another of its length.
+// kept: `copy_from_slice` at two maps of one lent struct is not covered by the borrow checker (tried)
 fn copy_map(to: &mut &mut [u64], from: &&mut [u64])
     requires { length to.old.now ≡ length from.now.now }
     ensures same { to.new.ghost_name ≡ to.old.ghost_name }

@@ -1,5 +1,5 @@
 // Which data blocks are held: maps of bits in words of 64, the lowest bit first.
-// kept: the board lends a map as plain words, so no type of ours can carry that they are fewer than 2^32
+// kept: a type that carries that they are fewer than 2^32 would have to be made of the plain words at each call, to no other end
 #![tactic(auto)]
 
 ghost use Rattle.std.specs.Prelude.{◌≡◌, ◌+◌, ◌*◌, ◌^◌, ◌<◌, ◌≤◌, true, false, length, set, replicate, slice_index_or, slice_set, IfSome};

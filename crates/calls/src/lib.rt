@@ -38,6 +38,7 @@ pub enum Call<'a> {
     SyncFile(u64),
     SyncTree,
     // bytes that are no call: where they cease to be one
+    // kept: the model has it as a call, with a refusal of its own
     Garbled(u64),
 }
 

@@ -14,7 +14,8 @@ use rows::keys::entry_row;
 use rows::nodes::{Place, place_at};
 use rows::used::Used;
 
-// What stands at a row. (Of tables that are lent to be changed, one is lent on at a time; this reads two.)
+// What stands at a row.
+// kept: that two tables of a lent struct are read in one call is not covered where the struct is to be changed (tried)
 fn read_place(tables: &Tables<'_>, row: usize) -> Place
     requires nodes { 4 * row + 4 ≤ length tables.now.nodes.now }
     requires sums { 2 * row + 2 ≤ length tables.now.sums.now }

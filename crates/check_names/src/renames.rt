@@ -32,7 +32,6 @@ pub fn remove(state: &State<'_>, dir: u64, name: &[u8]) -> Result<Step<'static>,
 }
 
 // May a node stand in the place of what has its new name? True where that is the node itself.
-// kept: the flag tells two of the answers apart that are no refusal, and has no value beside it
 pub fn in_place(state: &State<'_>, id: u64, replaced: Option<Named>) -> Result<bool, Refusal>
     ensures { (s : stages.Stage) (t : model.Tree) →
         Sound (limits_of s state.now.room.limits) (words state.now.tree.view) t →

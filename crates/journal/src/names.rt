@@ -2,7 +2,6 @@
 ghost use Rattle.std.specs.Prelude.{◌≤◌};
 
 // The first `len` of `bytes`.
-// kept: there is no heap, so a name lies in an array that has room for any, with its length
 #[derive(Clone, Copy, Debug)]
 pub struct Name {
     pub len: usize,

@@ -44,7 +44,6 @@ fn name_size(name: &[u8]) -> usize
 }
 
 // How many words the item of a changing call takes.
-// kept: an enum of the changing calls alone would be `Call` again, and the one call that is appended would be turned into it first
 fn item_size(call: Call<'_>) -> usize
     requires { Changing (call_of call) }
     ensures { result ≡ item_size (call_of call.entry) }

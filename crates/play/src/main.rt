@@ -51,7 +51,6 @@ fn script_name(rt: &HostRuntime) -> Result<String, Stopped> {
 // Plays all lines of a text, and stops at the first that is in error.
 fn play_all(rt: &HostRuntime, name: String, text: &[u8]) -> Result<(), Stopped> {
     let mut player = Player::new();
-    // kept: lines are what `split_line` promises, and it promises that they come to an end
     let mut left = text;
     let mut number: u64 = 0;
     while !left.is_empty() {

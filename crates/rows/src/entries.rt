@@ -9,8 +9,7 @@ ghost use Rattle.rows.specs.Entries.{entry_in};
 ghost use Rattle.rows.specs.Found.{found};
 
 // An entry by value: the id that a name is given to, and the name, the first `len` bytes of `name`.
-// kept: there is no heap to have a name of its own length in, and a table's word may give any length
-#[derive(Clone, Copy, Debug, PartialEq, Eq)]
+#[derive(Clone, Copy, Debug)]
 pub struct Entry {
     pub id: u64,
     pub len: usize,
@@ -41,6 +40,7 @@ pub fn bytes_of(words: &[u64]) -> [u8; 64]
     ensures { take (8 * length words.now) result ≡ flat_map (bytes_of 8) words.now }
 {
     let mut bytes = [0; 64];
+    // kept: by their places, since no contract says what `chunks_exact_mut` leaves behind
     for (k, word) in words.iter().enumerate() {
         bytes[8 * k..8 * k + 8].copy_from_slice(&word.to_le_bytes());
     }

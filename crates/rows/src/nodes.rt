@@ -89,7 +89,6 @@ pub fn find_row(nodes: &[u64], rows: usize, id: u64) -> Option<usize>
     requires ascend { Ascends rows nodes.now }
     ensures { result ≡ found rows (row_of id rows nodes.now) }
 {
-    // kept: the table is lent as words, and the library's searches by halves are of slices of rows, which it cuts from no shared slice
     let mut low = 0;
     let mut high = rows;
     while low < high {

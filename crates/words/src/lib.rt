@@ -87,7 +87,6 @@ pub fn number(text: &[u8]) -> Result<(u64, &[u8]), Unread>
         return Err(Unread::Left(text.len()));
     }
     let mut n: u64 = 0;
-    // kept: the walk ends at another byte or in an error that tells what is left, which no adapter does
     let mut left = text;
     while let Some((b, after)) = left.split_first() {
         if !is_digit(*b) {
@@ -105,7 +104,6 @@ pub fn word(heap: Global, text: &[u8]) -> Result<(Vec<u8>, &[u8]), Unread>
 {
     let mut bytes = Vec::new(heap);
     let mut state = Reading::Begun;
-    // kept: as in `number`, the walk ends at a space or in an error that tells what is left
     let mut left = text;
     while let Some((b, after)) = left.split_first() {
         if *b == b' ' {
