@@ -1,9 +1,9 @@
 -- Bytes and words: a byte more of a word that is read, a word's bytes as code has them, and a word more of those written.
-use Rattle.std.proofs.Common.{◌≡◌, ℕ, zero, suc, ◌+◌, ◌-◌, ◌*◌, ◌/◌, ◌%◌, ◌<◌, ◌≤◌, List, [], ◌∷◌, ◌++◌, length, get_or, take, drop, refl, ap, ◌∙◌, inl, inr, arith}
+use Rattle.std.proofs.Common.{◌≡◌, ℕ, zero, suc, ◌+◌, ◌-◌, ◌*◌, ◌/◌, ◌%◌, ◌<◌, ◌≤◌, List, [], ◌∷◌, ◌++◌, length, get_or, take, drop, drop-drop, replicate, sym, refl, ap, ◌∙◌, inl, inr, arith}
 use borrow.Rule.Slice.PartMut.{put_mid}
 use Rattle.std.specs.List.{flat_map}
-use Rattle.std.proofs.lemmas.List.{append-nil, drop_more, drop_all, get_or_past, take_more}
-use Rattle.std.proofs.lemmas.Slice.{take-put_mid}
+use Rattle.std.proofs.lemmas.List.{append-nil, drop_more, drop_all, drop-replicate, get_or_past, take_more}
+use Rattle.std.proofs.lemmas.Slice.{take-put_mid, drop-put_mid}
 use Rattle.std.proofs.lemmas.Bool.{cases_lt}
 use Rattle.blocks.specs.Words.{le, bytes_of}
 use Rattle.blocks.proofs.Joins.{joined_append}
@@ -59,3 +59,14 @@ bytes_more ws bs new k l room e en =
     joined_append (bytes_of 8) (take k ws) (w ∷ []) in
     let f : bytes_of 8 w ++ [] ≡ bytes_of 8 w = append-nil (bytes_of 8 w) in
     cc
+
+-- and zeros still stand after them
+pub zeros_left : (bs new : List ℕ) (k : ℕ) → 8 * k + 8 ≤ length bs → length new ≡ 8 → drop (8 * k) bs ≡ replicate (64 - 8 * k) 0 →
+    drop (8 * (k + 1)) (put_mid (8 * k) (8 * k + 8 - 8 * k) bs new) ≡ replicate (64 - 8 * (k + 1)) 0
+zeros_left bs new k room ln e =
+    let at : 8 * k + 8 ≡ 8 * (k + 1) = omega arith in
+    let n : (64 - 8 * k) - 8 ≡ 64 - 8 * (k + 1) = omega arith in
+    drop-put_mid (8 * k) (8 * k + 8 - 8 * k) bs new (8 * (k + 1)) (omega arith) (omega arith) (omega arith)
+    ∙ (ap (λ i. drop i bs) (sym at)
+    ∙ (sym (drop-drop 8 (8 * k) bs)
+    ∙ (ap (drop 8) e ∙ (drop-replicate 8 (64 - 8 * k) 0 ∙ ap (λ i. replicate i 0) n))))

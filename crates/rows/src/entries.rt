@@ -1,5 +1,5 @@
 // The table of entries, sixteen words each: an entry by its name, and an entry read.
-ghost use Rattle.std.specs.Prelude.{◌≡◌, ◌+◌, ◌*◌, ◌≤◌, length, take, drop, slice_index, nat_lt, ◌&&◌};
+ghost use Rattle.std.specs.Prelude.{◌≡◌, ◌+◌, ◌-◌, ◌*◌, ◌≤◌, length, take, drop, replicate, slice_index, nat_lt, ◌&&◌};
 ghost use Rattle.std.specs.List.{flat_map};
 ghost use Rattle.blocks.specs.Words.{bytes_of, part};
 ghost use Rattle.model.specs.Tree.{same};
@@ -34,10 +34,11 @@ pub fn entry_id(entries: &[u64], row: usize) -> u64
     entries[16 * row]
 }
 
-// The bytes of up to eight words, at the front.
+// The bytes of up to eight words, at the front, and zeros after them.
 pub fn bytes_of(words: &[u64]) -> [u8; 64]
     requires { length words.now ≤ 8 }
-    ensures { take (8 * length words.now) result ≡ flat_map (bytes_of 8) words.now }
+    ensures bytes { take (8 * length words.now) result ≡ flat_map (bytes_of 8) words.now }
+    ensures rest { drop (8 * length words.now) result ≡ replicate (64 - 8 * length words.now) 0 }
 {
     let mut bytes = [0; 64];
     // kept: by their places, since no contract says what `chunks_exact_mut` leaves behind

@@ -21,4 +21,4 @@ returns-clause-name c =
     let size : c.div_ceil.result ≡ (n + 7) / 8 = omega (arith, c.div_ceil.ensures) in
     name_clean _ rest c.in_ok-body.body.now n _ c.in_ok-first.ensures.cases.0 (g.0.2 ∙ (between_from_start rest c.div_ceil.result ∙ ap (λ k. take k rest) size))
     (omega (arith, g.0.1)) (omega arith) (omega arith) c.in_ok-last.ensures.value c.bytes_of-bytes.result (sym c.if-not-ends_in_zeros.ensures)
-    c.bytes_of-bytes.ensures
+    c.bytes_of-bytes.ensures.bytes
