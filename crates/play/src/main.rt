@@ -3,6 +3,7 @@
 
 use player::{Player, Trouble, split_line};
 use std::error::Error;
+use std::io::Write;
 use std::process::ExitCode;
 use std::{env, fmt, fs, io};
 
@@ -56,8 +57,9 @@ fn play_all(rt: &HostRuntime, name: String, text: &[u8]) -> Result<(), Stopped> 
     while !left.is_empty() {
         let (line, after) = split_line(left);
         number = number.saturating_add(1);
+        // kept: `write_all`, since `print!` makes a buffer for each line, also where it prints nothing
         match player.play(rt.alloc(), line) {
-            Ok(printed) => print!(rt; "{printed}")?,
+            Ok(printed) => rt.stdout().write_all(printed.as_bytes())?,
             Err(trouble) => return Err(Stopped::Line(name, number, trouble)),
         }
         left = after;
