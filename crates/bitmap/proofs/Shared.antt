@@ -1,11 +1,11 @@
 -- Bits that are set in both of two maps: word by word they are those of the words' `and`.
-use Rattle.std.proofs.Common.{◌≡◌, ℕ, suc, ◌+◌, ◌-◌, ◌*◌, ◌^◌, ◌<◌, ◌≤◌, Bool, true, false, List, [], ◌∷◌, ◌++◌, length, get_or, drop, Some, refl, sym, ap, ◌∙◌, arith, length-append}
+use Rattle.std.proofs.Common.{◌≡◌, ℕ, suc, ◌+◌, ◌-◌, ◌*◌, ◌^◌, ◌<◌, ◌≤◌, Bool, true, false, List, [], ◌∷◌, ◌++◌, length, get_or, drop, Some, sym, ap, ◌∙◌, arith, length-append}
 use lib.Bits.{bit_and, and_lt}
 use lib.Count.{ones}
-use Rattle.std.specs.List.{slice_get, sum_by, zip}
+use Rattle.std.specs.List.{slice_get}
 use Rattle.std.specs.Option.{option_map}
-use Rattle.std.proofs.lemmas.List.Sums.{sum_by-cons}
 use Rattle.std.proofs.lemmas.List.{drop_more, drop_all}
+use Rattle.std.proofs.lemmas.Nat.{ones-le}
 use Rattle.std.proofs.lemmas.Option.{slice_get-get_or}
 use Rattle.blocks.specs.Bits.{word_bits, bits_of}
 use Rattle.machine.specs.State.{both}
@@ -27,27 +27,6 @@ both-append (true ∷ us) (false ∷ bs) xs ys k h =
     both-append us bs xs ys (suc k) (omega arith) ∙ ap (λ j. both us bs (suc k) ++ both xs ys j) (omega arith)
 both-append (false ∷ us) (b ∷ bs) xs ys k h =
     both-append us bs xs ys (suc k) (omega arith) ∙ ap (λ j. both us bs (suc k) ++ both xs ys j) (omega arith)
-
--- how many bits two words share, and all pairs of words
-abbrev pub shared_ones : (ℕ × ℕ) → ℕ
-shared_ones p = ones (bit_and p.0 p.1)
-
-pub count_pairs : (us bs : List ℕ) (k : ℕ) → ((i : ℕ) → get_or us i 0 < 2 ^ 64) → ((i : ℕ) → get_or bs i 0 < 2 ^ 64) →
-    length bs ≡ length us → sum_by shared_ones (zip us bs) ≡ length (both (bits_of us) (bits_of bs) k)
-unfolding both
-count_pairs [] bs k fu fb e = refl
-count_pairs (u ∷ us) [] k fu fb e = absurd (omega (arith, e))
-count_pairs (u ∷ us) (b ∷ bs) k fu fb e =
-    let n : ℕ = k + length (word_bits u) in
-    let i = count_pairs us bs n (λ j. fu (suc j)) (λ j. fb (suc j)) (omega (arith, e)) in
-    let front : length (both (word_bits u) (word_bits b) k) ≡ ones (bit_and u b) =
-    ap length (both_word u b k)
-    ∙ (length-places (word_bits (bit_and u b)) k ∙ count_word (bit_and u b) (and_lt 64 u b (fu 0) (fb 0))) in
-    sum_by-cons {X = ℕ × ℕ} shared_ones (u, b) (zip us bs)
-    ∙ (ap (λ j. ones (bit_and u b) + j) i
-    ∙ (ap (λ j. j + length (both (bits_of us) (bits_of bs) n)) (sym front)
-    ∙ (sym (length-append (both (word_bits u) (word_bits b) k) (both (bits_of us) (bits_of bs) n))
-    ∙ ap length (sym (both-append (word_bits u) (word_bits b) (bits_of us) (bits_of bs) k (length_word u ∙ sym (length_word b)))))))
 
 -- what is shared from word i on
 abbrev pub shared_from : List ℕ → List ℕ → ℕ → List ℕ
@@ -81,8 +60,17 @@ module _ (us bs : List ℕ) (i : ℕ) (h : i < length us) (alike : length bs ≡
     fits : bit_and x y < 2 ^ 64
     fits = and_lt 64 x y fx fy
 
+    pub few_in : ones (bit_and x y) ≤ 64
+    few_in = ones-le 64 (bit_and x y) fits
+
     length_in : length (shared_in us bs i) ≡ ones (bit_and x y)
     length_in = length-places (word_bits (bit_and x y)) (64 * i) ∙ count_word (bit_and x y) fits
+
+    pub length_from : length (shared_from us bs i) ≡ ones (bit_and x y) + length (shared_from us bs (i + 1))
+    length_from =
+        ap length shared_more
+        ∙ (length-append (shared_in us bs i) (shared_from us bs (i + 1))
+        ∙ ap (λ n. n + length (shared_from us bs (i + 1))) length_in)
 
     -- the n-th from word i on: in this word, or in a later one
     nth_in : (n : ℕ) → n < ones (bit_and x y) →

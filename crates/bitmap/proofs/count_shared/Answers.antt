@@ -1,16 +1,28 @@
--- The sum of the set bits that two words share.
-use Rattle.std.proofs.Common.{rules, ◌∙◌, arith}
-use Rattle.std.specs.List.{zip}
-use Rattle.std.proofs.lemmas.Iterator.{YieldsList-from_slice, YieldsList-from_zip, YieldsList-from_map}
-use Rattle.std.proofs.lemmas.Iterator.Consumers.{YieldsList-at, sum_by_from_yields_List}
-use Rattle.bitmap.proofs.Shared.{shared_ones, count_pairs}
+use Rattle.std.proofs.Common.{length, ap, arith}
+use Rattle.bitmap.proofs.Shared.{few_in, length_from, shared_end}
 use Rattle.bitmap.proofs.count_shared.Goals as goal
+
+pub overflow_cast-shared : goal.overflow_cast-shared
+overflow_cast-shared c =
+    let few = few_in c.args.a.now c.args.b.now c.loop-i.i c.loop-i-test.true c.requires.alike
+    (omega arith) (omega arith) in
+    omega arith
+
+pub overflow_add-shared : goal.overflow_add-shared
+overflow_add-shared c =
+    let few = few_in c.args.a.now c.args.b.now c.loop-i.i c.loop-i-test.true c.requires.alike
+    (omega arith) (omega arith) in
+    omega arith
+
+pub loop-i-preserved : goal.loop-i-preserved
+loop-i-preserved c =
+    let few = few_in c.args.a.now c.args.b.now c.loop-i.i c.loop-i-test.true c.requires.alike
+    (omega arith) (omega arith) in
+    let more = length_from c.args.a.now c.args.b.now c.loop-i.i c.loop-i-test.true c.requires.alike
+    (omega arith) (omega arith) in
+    (omega arith, omega arith)
 
 pub returns : goal.returns
 returns c =
-    sum_by_from_yields_List shared_ones (zip c.args.a.now c.args.b.now) c.map.result _ c.sum.ensures.ran
-    (YieldsList-from_map _ shared_ones
-    (YieldsList-at c.map.ensures.source
-    (YieldsList-from_zip (YieldsList-from_slice c.args.a.now cc) (YieldsList-from_slice c.args.b.now cc)))
-    c.map.ensures.closure (λ x r q k. search rules))
-    ∙ count_pairs c.args.a.now c.args.b.now 0 (λ k. omega (arith, c.type_inv.a k)) (λ k. omega (arith, c.type_inv.b k)) c.requires.alike
+    let end = ap length (shared_end c.args.a.now c.args.b.now c.loop-i.i c.loop-i-test.false) in
+    omega arith

@@ -9,8 +9,9 @@ use Rattle.bitmap.proofs.nth_set.Goals as goal
 
 pub returns-clause-place : goal.returns-clause-place
 returns-clause-place c =
-    sym (option_map_id c.nth.result)
+    (search rules)
+    ∙ (sym (option_map_id c.nth.result)
     ∙ (nth_from_yields_List c.nth.result _ c.args.k c.nth.ensures.ran
     (YieldsList-from_filter _ (bit_set c.args.word) (YieldsList-from_range 0 64 64 c.filter.ensures.source refl)
     c.filter.ensures.closure (λ x b q k. search rules))
-    ∙ ap (λ t. slice_get t c.args.k) (word_places c.args.word))
+    ∙ ap (λ t. slice_get t c.args.k) (word_places c.args.word)))
