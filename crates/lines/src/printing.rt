@@ -6,6 +6,7 @@ ghost use Rattle.lines.specs.Printing.{print_call, print_answer};
 use crate::verb::Verb;
 use calls::{Answer, Call};
 use std::fmt;
+use std::fmt::Display;
 use words::printing::Word;
 
 // A call as a line. Bytes that are no call are an empty line.
@@ -32,7 +33,7 @@ impl fmt::Display for CallLine<'_> {
             Call::List(m, n) | Call::Read(m, n) | Call::Resize(m, n) => write!(f, "{verb} {m} {n}"),
             Call::Size(i) | Call::SyncFile(i) => write!(f, "{verb} {i}"),
             Call::Write(i, o, b) => write!(f, "{verb} {i} {o} {}", Word(b)),
-            Call::SyncTree => write!(f, "{verb}"),
+            Call::SyncTree => verb.fmt(f),
             Call::Garbled(_) => Ok(()),
         }
     }

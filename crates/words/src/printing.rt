@@ -1,11 +1,12 @@
 // Bytes printed as a word: no part of a text but their own, whatever stands before and after.
 ghost use Rattle.std.specs.Prelude.{◌≡◌, ◌==◌, ◌<◌, ◌≤◌, ◌↔◌, ◌++◌, length, IsSome, IfSome, Some};
 ghost use Rattle.std.specs.List.{prefix_len};
-ghost use Rattle.words.specs.Printed.{print_byte, print_row, rows, print_word};
+ghost use Rattle.words.specs.Printed.{hex, print_byte, print_row, rows, print_word};
 
 use crate::reading::is_plain;
 use crate::rest;
 use std::fmt;
+use std::fmt::Display;
 
 // Any bytes, printed as a word.
 #[derive(Clone, Copy, Debug, PartialEq, Eq)]
@@ -42,16 +43,30 @@ fn first_row(bytes: &[u8]) -> Option<(Row, &[u8])>
     Some((Row { byte, times }, rest(bytes, times)))
 }
 
+// The digit for a value below 16.
+fn hex_letter(value: u8) -> u8
+    requires { value < 16 }
+    ensures letter { result ≡ hex value }
+    ensures ascii { result < 128 }
+{
+    if value < 10 {
+        b'0' + value
+    } else {
+        b'a' - 10 + value
+    }
+}
+
 impl fmt::Display for Letter {
     ghost output = { λ letter. Some (print_byte letter.0) };
 
-    #[tactic(auto, using(std::proofs::lemmas::Fmt::hex_byte))]
+    // kept: digit by digit, and rows and words by `fmt` itself, since `{:02x}` and a `write!` in a `write!` take up to three fifths more time
     fn fmt<W: fmt::Write>(&self, f: &mut fmt::Formatter<W>) -> fmt::Result {
         if is_plain(self.0) {
-            write!(f, "{}", char::from(self.0))
-        } else {
-            write!(f, "\\x{:02x}", self.0)
+            return f.write_char(char::from(self.0));
         }
+        f.write_str("\\x")?;
+        f.write_char(char::from(hex_letter(self.0 / 16)))?;
+        f.write_char(char::from(hex_letter(self.0 % 16)))
     }
 }
 
@@ -64,7 +79,7 @@ impl fmt::Display for Row {
             return write!(f, "{letter}\\{{{}}}", self.times);
         }
         for _k in 0..self.times {
-            write!(f, "{letter}")?;
+            letter.fmt(f)?;
         }
         Ok(())
     }
@@ -79,7 +94,7 @@ impl fmt::Display for Word<'_> {
         }
         let mut left = self.0;
         while let Some((row, after)) = first_row(left) {
-            write!(f, "{row}")?;
+            row.fmt(f)?;
             left = after;
         }
         Ok(())
