@@ -4,9 +4,10 @@ ghost use Rattle.model.specs.Tree as model;
 ghost use Rattle.model.specs.Calls.{good_name, good_fields};
 ghost use Rattle.calls.specs.Meaning.{call_of};
 ghost use Rattle.lookup.specs.Views.{words, Sound, SomeTree};
-ghost use Rattle.steps.specs.Stages.{limits_of};
+ghost use Rattle.steps.specs.Stages.{limits_of, stage_calls};
 ghost use Rattle.steps.specs.Steps.{ToldByState, TellsAll};
 
+use calls::kind::Kind as CallKind;
 use calls::{Call, Refusal};
 use check_files::files::{list, read, resize, size, sync_file, write};
 use check_names::makes::{find, make};
@@ -15,6 +16,17 @@ use rows::nodes::Kind;
 use steps::stage::Stage;
 use steps::state::State;
 use steps::step::Step;
+
+// Can the call with a number be done? No stage says no to a number that no call has: bytes with it are told before.
+// kept: any number, as callers may give one; `Stage::can` is for those who have a kind
+pub fn can(stage: Stage, number: u8) -> bool
+    ensures { result ≡ stage_calls stage number }
+{
+    match CallKind::try_from(number) {
+        Ok(kind) => stage.can(kind),
+        Err(_) => true,
+    }
+}
 
 // Has a name 1 to 64 bytes?
 pub fn named_well(name: &[u8]) -> bool
