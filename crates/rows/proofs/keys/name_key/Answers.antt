@@ -1,5 +1,5 @@
 -- A turn puts in the word of the next eight bytes, and behind the last there are zeros.
-use Rattle.std.proofs.Common.{◌≡◌, ◌+◌, ◌*◌, ◌<◌, length, refl, sym, ap, ◌∙◌, arith, length-drop}
+use Rattle.std.proofs.Common.{rules, ◌≡◌, ◌+◌, ◌*◌, ◌<◌, length, refl, sym, ap, ◌∙◌, arith, length-drop}
 use Rattle.blocks.specs.Words.{le}
 use Rattle.rows.proofs.NameWords.{key_more, key_done, next_bytes}
 use Rattle.rows.proofs.keys.name_key.Goals as goal
@@ -16,7 +16,7 @@ loop-k-preserved c =
     let w = c.word.ensures ∙ ap le cut.0 in
     let k : c.in-Some.k ≡ n = st.1 in
     let m : c.next.new.self.count ≡ n + 1 = st.2 in
-    rw (m, k) (key_more c.args.name.now c.loop-k.key n _ lt i.0 w, cut.1, st.0.0 ∙ i.2, omega arith)
+    rw (m, k) (key_more c.args.name.now c.loop-k.key n _ lt i.0 (search (rules, w)), cut.1, st.0.0 ∙ i.2, omega arith)
 
 pub returns : goal.returns
 returns c =
